@@ -1,40 +1,49 @@
 -- The results that dry runs keep for macros stay right. Each is that of a text that calls the
 -- macro.
-use Rattle.std.proofs.Common.{◌≡◌, ℕ, Bool, true, false, cond, List, [], Option, Some, None, IfSome, refl, sym, ap, ◌∙◌}
-use Rattle.std.proofs.lemmas.Slice.Eq.{bytes_eq-Decides}
-use Rattle.std.specs.HashMap.{HashMap, get, Updates}
+use Rattle.std.proofs.Common.{◌≡◌, ℕ, zero, suc, Bool, true, false, cond, List, length, Option, Some, None, IfSome, option_map, refl, sym, ap, ◌∙◌}
+use Rattle.std.proofs.lemmas.Map.Lookups.{exact_unsigned}
+use Rattle.std.specs.BTreeMap.{BTreeMap, get, is_at, Updates}
 use Rattle.std.specs.Map.{lookup}
-use denote.Bor.{Bor}
+use Rattle.std.specs.declared.cmp.Ordering.{Ordering}
+use Rattle.std.specs.declared.cmp.Ordering.TheVariants.{Less, Equal, Greater}
+use Rattle.std.specs.Ordering.{is_eq, nat_cmp}
 use Rattle.csl_elements.specs.declared.taxonomy.Variable.{Variable}
 use Rattle.csl_elements.specs.Dressing.{TextDressing}
-use Rattle.csl_elements.specs.Node.{ExpandedNodes, expand_call}
+use Rattle.csl_elements.specs.Node.{ExpandedNodes, expand_call, expand_nodes}
+use Rattle.csl_elements.specs.View.{Definition, definitions}
+use Rattle.csl_style.proofs.Called.{place-is}
+use Rattle.csl_style.proofs.Meanings.{body-none}
+use Rattle.csl_style.specs.Expanded.{macro_env}
+use Rattle.csl_style.specs.Expansion.{macro_index, macro_body, expansion_to_depth, macro_expansion}
+use Rattle.csl_style.specs.Style.{StyleParts}
 use Rattle.csl_context.specs.State.{State}
 use Rattle.csl_context.specs.RenderInput.{RenderInput}
-use Rattle.csl_render.specs.DryRun.{text_eq, call_info, call_shows}
+use Rattle.csl_render.specs.DryRun.{nodes_at, call_info, call_shows}
 use Rattle.csl_render.specs.Tree.{info, shows}
 
-module _ {X : Type 0} (Right : List ℕ → X → Type 0) where
+-- a key that is equal to another in the order of numbers is that number
+at_order : (k q : ℕ) (o : Ordering) → nat_cmp k q ≡ o → is_eq o ≡ true → k ≡ q
+at_order k q Less e h = absurd (cc)
+at_order k q Equal e h = exact_unsigned k q e
+at_order k q Greater e h = absurd (cc)
+
+module _ {X : Type 0} (Right : ℕ → X → Type 0) where
   -- each kept result is right
-  abbrev pub Kept : {S : Type 0} → HashMap (Bor (List ℕ)) X S → Type 0
-  Kept m = (name : Bor (List ℕ)) (a : X) → get text_eq m name ≡ Some a → Right name.now a
+  abbrev pub Kept : BTreeMap ℕ X → Type 0
+  Kept m = (place : ℕ) (a : X) → get nat_cmp m place ≡ Some a → Right place a
 
-  pub none_kept : {S : Type 0} (m : HashMap (Bor (List ℕ)) X S) → m.entries ≡ [] → Kept m
-  none_kept m none name a e =
-      let nothing : None ≡ Some a = ap (lookup (text_eq name)) (sym none) ∙ e in
-      absurd (cc)
-
-  kept_by : (k q : Bor (List ℕ)) (b : Bool) (x y : X) (o : Option X) → text_eq k q ≡ b → (o ≡ Some y → Right q.now y) → Right k.now x → cond b (Some x) o ≡ Some y → Right q.now y
-  kept_by k q true x y o at old new e =
-      let same : k.now ≡ q.now = (bytes_eq-Decides k.now q.now).0 at in
+  kept_by : (k q : ℕ) (b : Bool) (x y : X) (o : Option X) → (b ≡ true → k ≡ q) → (o ≡ Some y → Right q y) → Right k x → cond b (Some x) o ≡ Some y → Right q y
+  kept_by k q true x y o same old new e =
+      let here : k ≡ q = same refl in
       let value : x ≡ y = cc in
-      rw (← same, ← value) new
-  kept_by k q false x y o at old new e = old e
+      rw (← here, ← value) new
+  kept_by k q false x y o same old new e = old e
 
-  pub learned : {S : Type 0} (m n : HashMap (Bor (List ℕ)) X S) (k : Bor (List ℕ)) (x : X) → Updates text_eq m n k (Some x) → Kept m → Right k.now x → Kept n
-  learned m n k x up kept new q y e = kept_by k q (text_eq k q) x y (get text_eq m q) refl (kept q y) new (sym (up.0 q) ∙ e)
+  pub learned : (m n : BTreeMap ℕ X) (k : ℕ) (x : X) → Updates nat_cmp m n k (Some x) → Kept m → Right k x → Kept n
+  learned m n k x up kept new q y e = kept_by k q (is_at (nat_cmp k) q) x y (get nat_cmp m q) (at_order k q (nat_cmp k q) refl) (kept q y) new (sym (up.0 q) ∙ e)
 
-  pub unchanged : {S : Type 0} (m n : HashMap (Bor (List ℕ)) X S) → n.entries ≡ m.entries → Kept m → Kept n
-  unchanged m n same kept name a e = kept name a (ap (lookup (text_eq name)) (sym same) ∙ e)
+  pub unchanged : (m n : BTreeMap ℕ X) → n.entries ≡ m.entries → Kept m → Kept n
+  unchanged m n same kept place a e = kept place a (ap (lookup (is_at (nat_cmp place))) (sym same) ∙ e)
 
 -- a value that is found has a property that each such value has
 pub recalled : {X : Type 0} (P : X → Type 0) (o : Option X) → ((a : X) → o ≡ Some a → P a) → IfSome o P
@@ -42,6 +51,20 @@ recalled P None h = tt
 recalled P (Some a) h = h a refl
 
 -- ---- texts that call a macro
+
+not_expanded : (ds : List Definition) (n : ℕ) (name : List ℕ) → macro_body name ds ≡ None → expansion_to_depth ds n name ≡ None
+unfolding expansion_to_depth
+not_expanded ds zero name none = refl
+not_expanded ds (suc n) name none = ap (option_map (expand_nodes (expansion_to_depth ds n))) none
+
+called_by : (style : StyleParts) (name : List ℕ) (o : Option ℕ) → macro_index name (definitions style.macros) ≡ o → nodes_at style o ≡ macro_env style name
+unfolding macro_expansion
+called_by style name None h = sym (not_expanded (definitions style.macros) (length (definitions style.macros)) name (body-none name (definitions style.macros) h))
+called_by style name (Some i) h = ap (macro_env style) (place-is name (definitions style.macros) i h).named
+
+-- the nodes at the place of a name are those that the name stands for
+pub nodes_called : (style : StyleParts) (name : List ℕ) → nodes_at style (macro_index name (definitions style.macros)) ≡ macro_env style name
+nodes_called style name = called_by style name (macro_index name (definitions style.macros)) refl
 
 pub info_of_call : (w : RenderInput) (s : State) (d : TextDressing) (o : Option ExpandedNodes) → info w s (expand_call d o) ≡ call_info w s o
 info_of_call w s d None = refl

@@ -1,14 +1,16 @@
 -- Dry runs and queries. A dry run adds its results to a list (`Adds`). Both keep results for macros
 -- (CSL 1.0.2, Macro). In one input and state the result for a text that calls a macro depends on the
--- macro's name alone. One result for each name is enough. A dry run keeps the set of the variables
--- that it read, too.
+-- macro's name alone. One result for each name is enough. It is kept by the place of the first macro
+-- of the name. A dry run keeps the set of the variables that it read, too.
 use Rattle.std.specs.Prelude.{◌≡◌, ◌++◌, ℕ, Bool, false, List, Option, Some, None}
-use Rattle.std.specs.HashMap.{HashMap, get}
-use Rattle.std.specs.Str.{bytes_eq}
-use denote.Bor.{Bor}
+use Rattle.std.specs.BTreeMap.{BTreeMap, get}
+use Rattle.std.specs.Ordering.{nat_cmp}
 use Rattle.csl_elements.specs.declared.taxonomy.Variable.{Variable}
 use Rattle.csl_elements.specs.Node.{ExpandedNodes}
+use Rattle.csl_elements.specs.View.{definitions}
+use Rattle.csl_style.specs.Calls.{name_at}
 use Rattle.csl_style.specs.Expanded.{macro_env}
+use Rattle.csl_style.specs.Style.{StyleParts}
 use Rattle.csl_context.specs.ContextView.{ContextView}
 use Rattle.csl_context.specs.State.{State}
 use Rattle.csl_context.specs.RenderInput.{RenderInput}
@@ -28,20 +30,22 @@ abbrev pub call_shows : RenderInput → State → Variable → Option ExpandedNo
 call_shows w s v None = false
 call_shows w s v (Some fs) = any_shows w s v fs
 
-abbrev pub text_eq : Bor (List ℕ) → Bor (List ℕ) → Bool
-text_eq a b = bytes_eq a.now b.now
+-- the nodes that the name of the macro at a place stands for, if there is a place
+abbrev pub nodes_at : StyleParts → Option ℕ → Option ExpandedNodes
+nodes_at style None = None
+nodes_at style (Some place) = macro_env style (name_at (definitions style.macros) place)
 
 -- a result for a text that calls a macro; `d` is what the dry run read of its state
 abbrev pub IsCallInfo : RenderInput → State → Option ExpandedNodes → NodeInfo → Type 0
 IsCallInfo w d nodes i = (s : State) → AreAlikeOn w i.read d s → answer_of i ≡ call_info w s nodes
 
--- each result is that of a text that calls the macro of its name
-abbrev pub HasInfos : {S : Type 0} → RenderInput → State → HashMap (Bor (List ℕ)) NodeInfo S → Type 0
-HasInfos w d calls = (name : Bor (List ℕ)) (i : NodeInfo) → get text_eq calls name ≡ Some i → IsCallInfo w d (macro_env w.style name.now) i
+-- each result is that of a text that calls the macro at its place
+abbrev pub HasInfos : RenderInput → State → BTreeMap ℕ NodeInfo → Type 0
+HasInfos w d calls = (place : ℕ) (i : NodeInfo) → get nat_cmp calls place ≡ Some i → IsCallInfo w d (nodes_at w.style (Some place)) i
 
--- each result is whether a text that calls the macro of its name shows the variable
-abbrev pub HasShown : {S : Type 0} → RenderInput → State → Variable → HashMap (Bor (List ℕ)) Bool S → Type 0
-HasShown w s v calls = (name : Bor (List ℕ)) (shows : Bool) → get text_eq calls name ≡ Some shows → shows ≡ call_shows w s v (macro_env w.style name.now)
+-- each result is whether a text that calls the macro at its place shows the variable
+abbrev pub HasShown : RenderInput → State → Variable → BTreeMap ℕ Bool → Type 0
+HasShown w s v calls = (place : ℕ) (shows : Bool) → get nat_cmp calls place ≡ Some shows → shows ≡ call_shows w s v (nodes_at w.style (Some place))
 
 -- a context, and the variable of the query
 pub record Query (T : Type 0) : Type 0 where

@@ -4,7 +4,7 @@
 ghost use Rattle.std.specs.Prelude.{◌≡◌, ◌<◌, ◌-◌, [], length, set, IfOk, IfSome};
 ghost use Rattle.csl_style.specs.Expanded.{macro_env};
 ghost use Rattle.csl_context.specs.ContextView.{render_input};
-ghost use Rattle.csl_render.specs.DryRun.{Adds, IsCallInfo};
+ghost use Rattle.csl_render.specs.DryRun.{Adds, IsCallInfo, nodes_at};
 ghost use Rattle.csl_render.specs.Plan.{dry_now};
 
 use crate::plan::{NodeInfo, PlanItem};
@@ -13,15 +13,23 @@ use csl_context::Context;
 use csl_entry::EntryLike;
 use csl_nodes::no_info;
 use lit_model::Memory;
-use std::collections::HashMap;
+use std::collections::BTreeMap;
 use std::marker::Model;
 
+/// The place of the macro of a name, if the style has it.
+#[tactic(auto, using(crate::proofs::DryRuns::nodes_called))]
+pub(crate) fn macro_place<T>(ctx: &Context<'_, T>, name: &str) -> Option<usize>
+    ensures { nodes_at ctx.now.style result ≡ macro_env ctx.now.style name.now }
+{
+    ctx.style().macro_index(name)
+}
+
 /// A dry run over a context that is only read. It visits each macro at most once, and keeps the
-/// result by the macro's name.
+/// result by the macro's place in the style.
 #[derive(Drop)]
 pub(crate) struct DryRun<'c, 's, T: EntryLike> {
     ctx: &'c Context<'s, T>,
-    calls: HashMap<&'s str, NodeInfo>,
+    calls: BTreeMap<usize, NodeInfo>,
     /// The plan so far.
     items: Vec<PlanItem>,
 }
@@ -50,7 +58,7 @@ impl<'c, 's, T: EntryLike> DryRun<'c, 's, T> {
     {
         DryRun {
             ctx,
-            calls: HashMap::new(ctx.alloc()),
+            calls: BTreeMap::new(ctx.alloc()),
             items: Vec::new(ctx.alloc()),
         }
     }
@@ -93,21 +101,24 @@ impl<'c, 's, T: EntryLike> DryRun<'c, 's, T> {
         self.items
     }
 
-    /// The result for a text that calls the macro, if the dry run has kept it.
-    pub(crate) fn known_call(&self, name: &str) -> Option<NodeInfo>
+    /// The result for a text that calls the macro at a place, if the dry run has kept it.
+    pub(crate) fn known_call(&self, place: Option<usize>) -> Option<NodeInfo>
         ensures { IfSome result (IsCallInfo (render_input T.answers self.now.now)
-            (dry_now self.now.now) (macro_env self.now.now.style name.now)) }
+            (dry_now self.now.now) (nodes_at self.now.now.style place)) }
     {
-        self.calls.get(name).copied()
+        let place = place?;
+        self.calls.get(&place).copied()
     }
 
-    /// Keeps the result for a text that calls the macro.
-    pub(crate) fn keep_call(&mut self, name: &'s str, info: NodeInfo) -> Result<(), Memory>
+    /// Keeps the result for a text that calls the macro at a place, if there is one.
+    pub(crate) fn keep_call(&mut self, place: Option<usize>, info: NodeInfo) -> Result<(), Memory>
         requires { IsCallInfo (render_input T.answers self.old.now) (dry_now self.old.now)
-            (macro_env self.old.now.style name.now) info }
+            (nodes_at self.old.now.style place) info }
         ensures { self.new ≡ self.old }
     {
-        self.calls.insert(name, info)?;
+        if let Some(place) = place {
+            self.calls.insert(place, info)?;
+        }
         Ok(())
     }
 }

@@ -1,24 +1,23 @@
 //! Queries: whether nodes show a variable, over a context that is only read.
 
 ghost use Rattle.std.specs.Prelude.{◌≡◌, IfSome};
-ghost use Rattle.csl_style.specs.Expanded.{macro_env};
 ghost use Rattle.csl_context.specs.ContextView.{render_input};
-ghost use Rattle.csl_render.specs.DryRun.{call_shows};
+ghost use Rattle.csl_render.specs.DryRun.{call_shows, nodes_at};
 
 use csl_context::Context;
 use csl_entry::EntryLike;
 use csl_style::Variable;
 use lit_model::Memory;
-use std::collections::HashMap;
+use std::collections::BTreeMap;
 use std::marker::Model;
 
 /// A query whether nodes show a variable, over a context that is only read. It visits each macro at
-/// most once, and keeps the result by the macro's name.
+/// most once, and keeps the result by the macro's place in the style.
 #[derive(Drop)]
 pub(crate) struct Query<'c, 's, T: EntryLike> {
     ctx: &'c Context<'s, T>,
     variable: Variable,
-    calls: HashMap<&'s str, bool>,
+    calls: BTreeMap<usize, bool>,
 }
 
 impl<'c, 's, T: EntryLike> Model for Query<'c, 's, T> {
@@ -47,7 +46,7 @@ impl<'c, 's, T: EntryLike> Query<'c, 's, T> {
         Query {
             ctx,
             variable,
-            calls: HashMap::new(ctx.alloc()),
+            calls: BTreeMap::new(ctx.alloc()),
         }
     }
 
@@ -65,21 +64,24 @@ impl<'c, 's, T: EntryLike> Query<'c, 's, T> {
         self.variable
     }
 
-    /// Whether a text that calls the macro shows the variable, if the query has kept it.
-    pub(crate) fn known_call(&self, name: &str) -> Option<bool>
+    /// Whether a text that calls the macro at a place shows the variable, if the query has kept it.
+    pub(crate) fn known_call(&self, place: Option<usize>) -> Option<bool>
         ensures { IfSome result (λ shows. shows ≡ call_shows (render_input T.answers self.now.now)
-            self.now.now.state self.now.variable (macro_env self.now.now.style name.now)) }
+            self.now.now.state self.now.variable (nodes_at self.now.now.style place)) }
     {
-        self.calls.get(name).copied()
+        let place = place?;
+        self.calls.get(&place).copied()
     }
 
-    /// Keeps whether a text that calls the macro shows the variable.
-    pub(crate) fn keep_call(&mut self, name: &'s str, shows: bool) -> Result<(), Memory>
+    /// Keeps whether a text that calls the macro at a place, if there is one, shows the variable.
+    pub(crate) fn keep_call(&mut self, place: Option<usize>, shows: bool) -> Result<(), Memory>
         requires { shows ≡ call_shows (render_input T.answers self.old.now) self.old.now.state
-            self.old.variable (macro_env self.old.now.style name.now) }
+            self.old.variable (nodes_at self.old.now.style place) }
         ensures { self.new ≡ self.old }
     {
-        self.calls.insert(name, shows)?;
+        if let Some(place) = place {
+            self.calls.insert(place, shows)?;
+        }
         Ok(())
     }
 }

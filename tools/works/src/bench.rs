@@ -71,7 +71,9 @@ pub fn count(alloc: Global, name: &str, size: usize) -> Result<usize, WorkError>
         "long_texts" => strangers::long_texts(alloc, size),
         "locale_terms" => strangers::locale_terms(alloc, size),
         "many_macros" => strangers::many_macros(alloc, size),
+        "many_macros_suppressed" => strangers::many_macros_suppressed(alloc, size),
         "colliding_macros" => strangers::colliding_macros(alloc, size),
+        "colliding_macros_suppressed" => strangers::colliding_macros_suppressed(alloc, size),
         "doubled" => strangers::doubled(alloc, size),
         _ => Err(WorkError::Unexpected("no such work")),
     }

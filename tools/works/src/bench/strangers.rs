@@ -30,6 +30,12 @@ const LEVEL: usize = 6;
 /// How many items a macro's list has, and how many texts a long text.
 const ITEMS: usize = 100;
 
+/// The names of macros, but for the numbers at their ends.
+const USUAL: &str = "a macro of many of its sort ";
+
+/// The same, for names that all have one hash where a hash map has the kit's seed.
+const COLLIDING: &str = "x5F73gs_U.LWl3qDDUwmVmkM";
+
 /// A style, if its citation layout is within the limits.
 fn limited(style: Style, size: usize) -> Result<Style, WorkError> {
     if style.expanded_within(style.citation(), size as u64, DEPTH) {
@@ -79,13 +85,14 @@ fn of_editors(
     names_or(alloc, editors, group)
 }
 
-/// Nodes in [`LEVELS`] groups, each in the substitute of editors, which the article lacks.
+/// Nodes in `levels` groups, each in the substitute of editors, which the article lacks.
 fn in_substitutes(
     alloc: Global,
+    levels: usize,
     inside: Vec<LayoutRenderingElement>,
 ) -> Result<LayoutRenderingElement, WorkError> {
     let mut nodes = inside;
-    for _ in 1..LEVELS {
+    for _ in 1..levels {
         let names = of_editors(alloc, nodes)?;
         nodes = vec![in alloc; names]?;
     }
@@ -96,7 +103,7 @@ fn in_substitutes(
 /// alone: a variable that a substitute has shown is suppressed from there on.
 fn chains_style(alloc: Global, size: usize) -> Result<Style, WorkError> {
     let chains = repeated(alloc, room(size, 0, LEVELS * LEVEL + 1), || {
-        in_substitutes(alloc, vec![in alloc; title()]?)
+        in_substitutes(alloc, LEVELS, vec![in alloc; title()]?)
     })?;
     style(alloc, Vec::new(alloc), chains)
 }
@@ -118,7 +125,7 @@ fn leaves_style(alloc: Global, size: usize) -> Result<Style, WorkError> {
         Ok(Label::short(pages).into())
     })?;
     leaves.push(title())?;
-    let chain = vec![in alloc; in_substitutes(alloc, leaves)?]?;
+    let chain = vec![in alloc; in_substitutes(alloc, LEVELS, leaves)?]?;
     style(alloc, Vec::new(alloc), chain)
 }
 
@@ -250,28 +257,56 @@ pub fn doubled(alloc: Global, size: usize) -> Result<usize, WorkError> {
     size_within(alloc, style(alloc, macros, nodes)?, size)
 }
 
-/// A style of macros with these names and their numbers, each of a title and called once.
-fn named_macros(alloc: Global, size: usize, prefix: &str) -> Result<Style, WorkError> {
+/// Macros with these names and their numbers, each of a title, and a call of each.
+fn named_macros(
+    alloc: Global,
+    times: usize,
+    prefix: &str,
+) -> Result<(Vec<CslMacro>, Vec<LayoutRenderingElement>), WorkError> {
     let mut macros = Vec::new(alloc);
     let mut calls = Vec::new(alloc);
-    for place in 0..room(size, 0, 3) {
+    for place in 0..times {
         let number = 10_000_000 + place;
         let name = format!(in alloc; "{prefix}{number}")?;
         let nodes = vec![in alloc; title()]?;
         macros.push(CslMacro::new(alloc, name.as_str(), nodes)?)?;
         calls.push(Text::macro_call(alloc, name.as_str())?.into())?;
     }
-    style(alloc, macros, calls)
+    Ok((macros, calls))
 }
 
-/// Renders many macros, and counts the bytes of the plain text.
+/// Renders macros with such names, called in a group, and counts the bytes of the plain text.
+fn grouped_macros(alloc: Global, size: usize, prefix: &str) -> Result<usize, WorkError> {
+    let (macros, calls) = named_macros(alloc, room(size, 2, 3), prefix)?;
+    let nodes = vec![in alloc; Group::new(calls).into()]?;
+    size_within(alloc, style(alloc, macros, nodes)?, size)
+}
+
+/// Renders macros with such names, called in a chain of substitutes, without the author, and counts
+/// the bytes of the plain text. A call takes a level, too.
+fn suppressed_macros(alloc: Global, size: usize, prefix: &str) -> Result<usize, WorkError> {
+    let levels = LEVELS - 1;
+    let (macros, calls) = named_macros(alloc, room(size, levels * LEVEL, 3), prefix)?;
+    let nodes = vec![in alloc; in_substitutes(alloc, levels, calls)?]?;
+    suppressed_within(alloc, style(alloc, macros, nodes)?, size)
+}
+
+/// Renders many macros in a group.
 pub fn many_macros(alloc: Global, size: usize) -> Result<usize, WorkError> {
-    let style = named_macros(alloc, size, "a macro of many of its sort ")?;
-    size_within(alloc, style, size)
+    grouped_macros(alloc, size, USUAL)
 }
 
-/// Renders many macros whose names all have one hash, and counts the bytes of the plain text.
+/// Renders many macros in a chain of substitutes, without the author.
+pub fn many_macros_suppressed(alloc: Global, size: usize) -> Result<usize, WorkError> {
+    suppressed_macros(alloc, size, USUAL)
+}
+
+/// Renders many macros in a group, whose names all have one hash.
 pub fn colliding_macros(alloc: Global, size: usize) -> Result<usize, WorkError> {
-    let style = named_macros(alloc, size, "x5F73gs_U.LWl3qDDUwmVmkM")?;
-    size_within(alloc, style, size)
+    grouped_macros(alloc, size, COLLIDING)
+}
+
+/// Renders many macros in a chain of substitutes, without the author. Their names all have one hash.
+pub fn colliding_macros_suppressed(alloc: Global, size: usize) -> Result<usize, WorkError> {
+    suppressed_macros(alloc, size, COLLIDING)
 }
