@@ -44,6 +44,7 @@ use Rattle.std.specs.Borrow.{Bor}
 use Rattle.csl_elements.specs.declared.date.Date.{Date}
 use Rattle.csl_elements.specs.View.{view_date, view_date_part}
 use Rattle.csl_nodes.specs.declared.date_parts.LocalizedDate.{LocalizedDate}
+use Rattle.csl_nodes.specs.declared.date_parts.OwnParts.{OwnParts}
 
 -- ---- dry runs
 -- A date shows its own variable, unless the special form shows only another one. Under the two
@@ -131,12 +132,13 @@ abbrev pub formatting_over : Option DatePartNode → partial.Formatting → part
 formatting_over None f = f
 formatting_over (Some own) f = apply_partial own.formatting f
 
+-- a part with another over it, if there is one
+abbrev pub part_under : Option DatePartNode → DatePartNode → DatePartNode
+part_under own p = record p { form = form_over own p.form; formatting = formatting_over own p.formatting }
+
 -- a part of the localized date, with the node's own part of its name over it
 abbrev pub part_over : List DatePartNode → DatePartNode → DatePartNode
-part_over own p = record p {
-  form = form_over (own_part own p.name) p.form;
-  formatting = formatting_over (own_part own p.name) p.formatting;
-}
+part_over own p = part_under (own_part own p.name) p
 
 abbrev pub parts_over : Option DateParts → Option DateNode → Option DateParts
 parts_over own None = own
@@ -268,3 +270,9 @@ over_localized n (Some l) = map view_date_part n.date_part.items
 
 abbrev pub own_parts : LocalizedDate → List DatePartNode
 own_parts d = over_localized d.node.now d.localized
+
+-- the own part with this name, of the first of each
+abbrev pub own_named : OwnParts → DatePartName → Option DatePartNode
+own_named own Day = option_map (λ part. view_date_part part.now) own.day
+own_named own Month = option_map (λ part. view_date_part part.now) own.month
+own_named own Year = option_map (λ part. view_date_part part.now) own.year

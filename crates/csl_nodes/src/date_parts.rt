@@ -9,7 +9,7 @@ ghost use Rattle.csl_tree.specs.Tokens.{has_children};
 ghost use Rattle.csl_context.specs.ContextView.{Runs, Gives, render_input, with_content};
 ghost use Rattle.csl_context.specs.Texts.{text_in, between_in};
 ghost use Rattle.csl_nodes.specs.Boxes.{in_plain, plain_between};
-ghost use Rattle.csl_nodes.specs.Dates.{is_suffix_alone, own_part, form_over, formatting_over, part_over, suffix_with, part_value, is_stripped, part_content, date_body, localized_node, own_parts};
+ghost use Rattle.csl_nodes.specs.Dates.{is_suffix_alone, own_part, form_over, formatting_over, part_under, part_over, suffix_with, part_value, is_stripped, part_content, date_body, localized_node, own_parts, own_named};
 
 use crate::boxes::NodeDressing;
 use crate::date_suffix::is_suffix_alone;
@@ -24,6 +24,27 @@ use lit_model::{Date as Given, Memory};
 pub(crate) struct LocalizedDate<'d> {
     pub(crate) node: &'d Date,
     pub(crate) localized: Option<&'d Date>,
+}
+
+/// The node's own parts that override those of the localized date: the first of each name.
+#[derive(Clone, Copy)]
+struct OwnParts<'d> {
+    day: Option<&'d DatePart>,
+    month: Option<&'d DatePart>,
+    year: Option<&'d DatePart>,
+}
+
+impl<'d> OwnParts<'d> {
+    /// The part with this name.
+    fn named(self, name: DatePartName) -> Option<&'d DatePart>
+        ensures { option_map (λ part. view_date_part part.now) result ≡ own_named self.entry name }
+    {
+        match name {
+            DatePartName::Day => self.day,
+            DatePartName::Month => self.month,
+            DatePartName::Year => self.year,
+        }
+    }
 }
 
 /// The value of a date: the answer of the cite, and the suffix after its year.
@@ -100,6 +121,18 @@ impl<'d> LocalizedDate<'d> {
         match self.localized {
             None => None,
             Some(_) => part_named(&self.node.date_part, name),
+        }
+    }
+
+    /// The node's own part of each name.
+    fn own_parts(self) -> OwnParts<'d>
+        ensures { (name : DatePartName)
+            → own_named result name ≡ own_part (own_parts self.entry) name }
+    {
+        OwnParts {
+            day: self.own_part(DatePartName::Day),
+            month: self.own_part(DatePartName::Month),
+            year: self.own_part(DatePartName::Year),
         }
     }
 }
@@ -193,20 +226,22 @@ fn write_part<'s, T: EntryLike>(
     Ok(())
 }
 
-/// Renders a part. The form for the year suffix leaves out its affixes.
+/// Renders a part, with the node's own part of its name over it. The form for the year suffix leaves
+/// out its affixes.
 fn render_part<'s, T: EntryLike>(
     ctx: &mut Context<'s, T>,
     written: LocalizedDate<'_>,
     found: DateValue<'_>,
+    own: Option<&DatePart>,
     part: &DatePart,
 ) -> Result<(), RenderError>
     ensures { Runs (λ now. with_content (λ inh. part_content (render_input T.answers now)
         (unwrap_or (localized_node written.entry).parts YearMonthDay) found.entry.suffix.now
-        (date_view found.entry.date.now) inh (part_over (own_parts written.entry)
+        (date_view found.entry.date.now) inh (part_under
+        (option_map (λ part. view_date_part part.now) own.entry)
         (view_date_part part.now))) now) result ctx.old ctx.new }
 {
     let bare = Affixes::default();
-    let own = written.own_part(part.name);
     let alone = is_suffix_alone(ctx.special_form());
     let around = NodeDressing {
         formatting: formatting_over(own, part.formatting),
@@ -225,24 +260,25 @@ fn render_next_part<'s, T: EntryLike>(
     ctx: &mut Context<'s, T>,
     written: LocalizedDate<'_>,
     found: DateValue<'_>,
+    own: Option<&DatePart>,
     part: &DatePart,
     first: bool,
 ) -> Result<bool, RenderError>
     ensures value { Gives result (first && not (has_children (part_content
         (render_input T.answers ctx.old) (unwrap_or
         (localized_node written.entry).parts YearMonthDay)
-        found.entry.suffix.now (date_view found.entry.date.now) ctx.old.inherited (part_over
-        (own_parts written.entry) (view_date_part part.now))))) }
+        found.entry.suffix.now (date_view found.entry.date.now) ctx.old.inherited (part_under
+        (option_map (λ part. view_date_part part.now) own.entry) (view_date_part part.now))))) }
     ensures after { Runs (λ now. with_content (λ inh.
         let part = part_content (render_input T.answers now)
         (unwrap_or (localized_node written.entry).parts YearMonthDay) found.entry.suffix.now
-        (date_view found.entry.date.now) inh (part_over (own_parts written.entry)
-        (view_date_part part.now)) in
+        (date_view found.entry.date.now) inh (part_under
+        (option_map (λ part. view_date_part part.now) own.entry) (view_date_part part.now)) in
         if first then part else between_in inh (localized_node written.entry).delimiter None part)
         now) result ctx.old ctx.new }
 {
     let mark = ctx.push_elem()?;
-    render_part(ctx, written, found, part)?;
+    render_part(ctx, written, found, own, part)?;
     let is_empty = ctx.open_part_is_empty();
     if first {
         ctx.splice(mark)?;
@@ -264,9 +300,10 @@ pub(crate) fn render_parts<'s, T: EntryLike>(
 {
     ctx.ensure_live()?;
     let mut first = true;
+    let own = written.own_parts();
     let parts = written.date_part();
     for part in parts {
-        first = render_next_part(ctx, written, found, part, first)?;
+        first = render_next_part(ctx, written, found, own.named(part.name), part, first)?;
     }
     Ok(())
 }

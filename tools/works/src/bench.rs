@@ -66,6 +66,7 @@ pub fn count(alloc: Global, name: &str, size: usize) -> Result<usize, WorkError>
         "leaves_of_parents" => strangers::leaves_of_parents(alloc, size),
         "all_authors" => strangers::all_authors(alloc, size),
         "date_parts" => strangers::date_parts(alloc, size),
+        "localized_parts" => strangers::localized_parts(alloc, size),
         "tests" => strangers::tests(alloc, size),
         "name_variables" => strangers::name_variables(alloc, size),
         "long_texts" => strangers::long_texts(alloc, size),

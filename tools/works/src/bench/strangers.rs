@@ -12,9 +12,9 @@ use crate::nodes::{names_or, style, title};
 use csl::Entry;
 use csl::literature::EntryType;
 use csl::style::{
-    Choose, ChooseBranch, CslMacro, Date, DatePart, DatePartName, DateVariable, Group, Label,
-    LayoutRenderingElement, NameVariable, Names, NumberOrPageVariable, OtherTerm, PageVariable,
-    StandardVariable, Style, Term, Text,
+    Choose, ChooseBranch, CslMacro, Date, DateForm, DatePart, DatePartName, DateVariable, Group,
+    Label, Layout, LayoutRenderingElement, Locale, NameVariable, Names, NumberOrPageVariable,
+    OtherTerm, PageVariable, StandardVariable, Style, StyleSettings, Term, Text,
 };
 use std::alloc::Global;
 
@@ -187,12 +187,37 @@ fn calls_of(
 
 /// Renders calls of a macro of a date of [`ITEMS`] years, and counts the bytes of the plain text.
 pub fn date_parts(alloc: Global, size: usize) -> Result<usize, WorkError> {
-    let mut years = Vec::new(alloc);
-    for _ in 0..ITEMS {
-        years.push(DatePart::new(DatePartName::Year))?;
-    }
+    let years = parts_named(alloc, ITEMS, DatePartName::Year)?;
     let date = Date::new(DateVariable::Issued, years);
     calls_of(alloc, size, date.into(), ITEMS)
+}
+
+/// `size` parts of a date with the same name.
+fn parts_named(alloc: Global, size: usize, name: DatePartName) -> Result<Vec<DatePart>, WorkError> {
+    let mut parts = Vec::new(alloc);
+    for _ in 0..size {
+        parts.push(DatePart::new(name))?;
+    }
+    Ok(parts)
+}
+
+/// Renders a date that fills the layout with days, over a localized date of `size` months and a year,
+/// and counts the bytes of the plain text.
+pub fn localized_parts(alloc: Global, size: usize) -> Result<usize, WorkError> {
+    let mut parts = parts_named(alloc, size, DatePartName::Month)?;
+    parts.push(DatePart::new(DatePartName::Year))?;
+    let mut locale = Locale::new(alloc);
+    locale.dates.push(Date::localized(DateForm::Text, parts))?;
+    let days = parts_named(alloc, room(size, 1, 1), DatePartName::Day)?;
+    let date = Date {
+        form: Some(DateForm::Text),
+        ..Date::new(DateVariable::Issued, days)
+    };
+    let citation = Layout::new(vec![in alloc; date.into()]?);
+    let (settings, macros) = (StyleSettings::default(), Vec::new(alloc));
+    let locales = vec![in alloc; locale]?;
+    let style = Style::new(alloc, settings, macros, citation, None, locales)?;
+    size_within(alloc, style, size)
 }
 
 /// Renders calls of a macro of a choice that tests the title [`ITEMS`] times, and counts the bytes of

@@ -1,16 +1,17 @@
-use Rattle.std.proofs.Common.{◌≡◌, ◌+◌, ◌<◌, ◌&&◌, not, length, List, [], ◌∷◌, drop, map, filter, unwrap_or, sym, ap, ◌∙◌, arith}
+use Rattle.std.proofs.Common.{◌≡◌, ◌+◌, ◌<◌, ◌&&◌, not, length, List, [], ◌∷◌, drop, map, filter, unwrap_or, option_map, Bor, sym, ap, ◌∙◌, arith}
 use Rattle.std.proofs.lemmas.Grind.{common_steps}
 use Rattle.std.proofs.lemmas.List.{at_drop_more}
 use Rattle.lit_model.specs.Date.{date_view}
 use Rattle.csl_elements.specs.declared.date.DatePart.{DatePart}
+use Rattle.csl_elements.specs.View.{view_date_part}
 use Rattle.csl_elements.specs.declared.date.DateParts.TheVariants.{YearMonthDay}
 use Rattle.csl_tree.proofs.Joins.{join-none, join_assoc}
 use Rattle.csl_tree.specs.Content.{◌++>◌}
 use Rattle.csl_tree.specs.Tokens.{has_children}
 use Rattle.csl_context.specs.ContextView.{render_input}
 use Rattle.csl_context.specs.Texts.{text_in_if}
-use Rattle.csl_nodes.specs.Dates.{part_content, joined_by, localized_node}
-use Rattle.csl_nodes.proofs.JoinedParts.{behind_delimiter, none_to_come, one_to_come, part_of, contents_of, parts_of, with_one_more}
+use Rattle.csl_nodes.specs.Dates.{own_part, own_parts, part_content, joined_by, localized_node}
+use Rattle.csl_nodes.proofs.JoinedParts.{behind_delimiter, none_to_come, one_to_come, part_with, part_of, contents_of, parts_of, with_one_under, with_one_more}
 use Rattle.csl_nodes.proofs.date_parts.render_parts.Goals as goal
 
 pub loop-part-preserved : goal.loop-part-preserved
@@ -27,12 +28,15 @@ loop-part-preserved g c =
     let rest = drop (i + 1) parts in
     let contents = contents_of g.T.EntryLike.answers c.args.written c.args.found now rest in
     let less : i < length parts = grind (arith, common_steps) in
+    let own : option_map (λ (q : Bor DatePart). view_date_part q.now) c.named.result ≡ own_part (own_parts c.args.written) p.name = c.named.ensures ∙ c.own_parts-own.ensures p.name in
     let step : c.render_next_part.new.ctx ≡ record now { inner = ctx.inner ++> behind } =
     c.in_ok-first.ensures.after.becomes
+    ∙ ap (λ o. with_one_under g.T.EntryLike.answers c.args.written c.args.found o first p ctx) own
     ∙ ap (with_one_more g.T.EntryLike.answers c.args.written c.args.found first p) c.loop-part.invariant.frame in
     let inner = ap (λ b. b.inner) step in
     let value : c.in_ok-first.first ≡ (first && not (has_children content)) =
     c.in_ok-first.ensures.value
+    ∙ ap (λ o. first && not (has_children (part_with g.T.EntryLike.answers c.args.written c.args.found o ctx p))) own
     ∙ ap (λ b. first && not (has_children (part_of g.T.EntryLike.answers c.args.written c.args.found b p))) c.loop-part.invariant.frame in
     record {
       sound = c.loop-part.invariant.sound;
