@@ -8,7 +8,8 @@
 //! - `list`: a reference list that renders again only the lines that change;
 //! - `whole_list`: a whole list, from sort keys to HTML, over the works of `twelve`;
 //! - `pair`: two entries of two types, and whether they are alike for a style;
-//! - `page`: a reference list as a whole web page.
+//! - `links`: which links of a content stay;
+//! - `page`: a reference list as a whole web page, or lines with links to given hosts alone.
 //!
 //! `csl_uses` prints the output of each, and `csl_uses page` the web page alone.
 #![tactic(auto)]
@@ -17,6 +18,7 @@ mod book;
 mod cite;
 mod film;
 mod in_text;
+mod links;
 mod list;
 mod namesakes;
 mod page;
@@ -258,6 +260,24 @@ fn show_titles(rt: &(impl Print + AllocGlobal), film: &Film) -> Result<(), UseEr
     shown
 }
 
+/// Prints the lines of the web pages in this style, with links to one host alone.
+fn show_links_to_host(rt: &(impl Print + AllocGlobal), style: &Style) -> Result<(), UseError> {
+    let pages = page::web_pages(rt.alloc())?;
+    for (place, page) in pages.iter().enumerate() {
+        let line = page::line_with_links_to(rt.alloc(), style, page, place, &["www.w3.org"])?;
+        println!(rt; "links to www.w3.org: {line}")?;
+    }
+    Ok(())
+}
+
+/// Prints the lines of the web pages, with links to one host alone.
+fn show_links(rt: &(impl Print + AllocGlobal)) -> Result<(), UseError> {
+    let style = page::number_style(rt.alloc())?;
+    let shown = show_links_to_host(rt, &style);
+    drop(style);
+    shown
+}
+
 /// Prints the web page.
 fn show_page(rt: &(impl Print + AllocGlobal)) -> Result<(), UseError> {
     let pages = page::web_pages(rt.alloc())?;
@@ -283,6 +303,7 @@ fn show_uses(
     show_whole_list(rt)?;
     show_titles(rt, film)?;
     show_likeness(rt, style, film)?;
+    show_links(rt)?;
     show_page(rt)
 }
 

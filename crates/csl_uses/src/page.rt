@@ -1,12 +1,10 @@
 //! A reference list as a whole web page: texts are escaped, and only web addresses are links.
 
 ghost use Rattle.std.specs.Prelude.{◌≡◌, IfOk, string_bytes};
-ghost use Rattle.std.specs.List.{All};
-ghost use Rattle.csl.specs.Literature.WebAddress.{IsWebAddress};
-ghost use Rattle.csl.specs.Tree.Links.{addresses};
 ghost use Rattle.csl.specs.Tree.Tokens.{tokens, leaf_text};
 ghost use Rattle.csl_uses.specs.Page.{answers_of, numbered_line};
 
+use crate::links;
 use csl::entry::SpeculativeCiteProperties;
 use csl::literature::{
     ChunkedString, Date, LongShortForm, MaybeTyped, Numeric, PageRanges, Person,
@@ -18,7 +16,7 @@ use csl::style::{
 };
 use csl::{
     BufWriteFormat, CitationNumber, CiteProperties, DisambiguateState, ElemChildren, EntryLike,
-    Error, Memory, english, is_web_address,
+    Error, Memory, english,
 };
 use std::alloc::Global;
 use std::borrow::{Cow, CowStr};
@@ -222,25 +220,6 @@ pub fn number_style(alloc: Global) -> Result<Style, Error> {
     )?)
 }
 
-/// The content, with each link that leads to neither `http` nor `https` replaced by its text.
-fn with_web_links(alloc: Global, rendered: ElemChildren) -> Result<ElemChildren, Memory>
-    ensures text { IfOk result (λ content.
-        leaf_text (tokens content) ≡ leaf_text (tokens rendered)) }
-    ensures web { IfOk result (λ content. All IsWebAddress (addresses (tokens content))) }
-{
-    let mut content = rendered;
-    let mut checked = Ok(());
-    content.keep_links(|address: &str| match is_web_address(alloc, address) {
-        Ok(is_web) => is_web,
-        Err(memory) => {
-            checked = Err(memory);
-            false
-        }
-    });
-    checked?;
-    Ok(content)
-}
-
 /// The line of the entry at this place of the list. It is empty if the style has no bibliography.
 fn list_line<T: EntryLike>(
     alloc: Global,
@@ -266,9 +245,26 @@ fn list_line<T: EntryLike>(
         },
     };
     match csl::bibliography_entry(alloc, style, entry, &cite)? {
-        Some(rendered) => Ok(with_web_links(alloc, rendered.content)?),
+        Some(rendered) => Ok(links::with_web_links(alloc, rendered.content)?),
         None => Ok(ElemChildren::new(alloc)),
     }
+}
+
+/// The line of the entry at this place of the list as HTML, with links to these hosts alone.
+///
+/// # Errors
+/// [`Error::Memory`]: out of memory, here or in the entry.
+/// [`Error::NotNumeric`]: there is no citation number for this place.
+pub fn line_with_links_to<T: EntryLike>(
+    alloc: Global,
+    style: &Style,
+    entry: &T,
+    place: usize,
+    hosts: &[&str],
+) -> Result<String, Error> {
+    let line = list_line(alloc, style, entry, place)?;
+    let line = links::with_links_to(alloc, line, hosts)?;
+    Ok(line.to_text(alloc, BufWriteFormat::Html)?)
 }
 
 /// A whole page of HTML: the bibliography of these entries in their order, numbered from 1.
