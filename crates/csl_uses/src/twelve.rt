@@ -1,32 +1,40 @@
 //! Twelve works, some with equal cites, and a style for them.
 
-use csl::literature::{self, Entry, EntryType, Person};
+use csl::literature::{self, Entry, EntryType, Person, QualifiedUrl};
 use csl::style::{
     Affixes, CslMacro, Date, DatePart, DatePartName, DateVariable, Formatting, Group,
     InheritableNameOptions, Layout, LayoutRenderingElement, NameAnd, NameAsSortOrder, NameForm,
     NameVariable, Names, Number, NumberVariable, StandardVariable, Style, StyleSettings, Text,
 };
-use csl::{Error, english};
+use csl::{Error, Memory, english};
 use std::alloc::Global;
+use url::{ParseError, Url};
 
 /// The family name and the given name of an author.
 type Author = (&'static str, &'static str);
 
-/// The authors of a work, its year and its title.
-type Row = (&'static [Author], i32, &'static str);
+/// The authors of a work, its year, its title and its address.
+type Row = (&'static [Author], i32, &'static str, Option<&'static str>);
 
 /// The works, in no order. Two are of one author and year. Two have authors of one family name and
-/// initial, two of one family name alone. Two have the same first of three authors.
+/// initial, two of one family name alone. Two have the same first of three authors. Two have an
+/// address: one leads to a web page, one is a script.
 static ROWS: [Row; 12] = [
-    (&[("Kwan", "Kevin")], 2014, "Second Thoughts"),
+    (&[("Kwan", "Kevin")], 2014, "Second Thoughts", None),
     (
         &[("Ng", "Ann"), ("Roe", "Dan"), ("Poe", "Cy")],
         2001,
         "Rivers",
+        None,
     ),
-    (&[("Miller", "Berta")], 2014, "Mills"),
-    (&[("Knuth", "Donald E.")], 1992, "Literate Programming"),
-    (&[("Lee", "John")], 2010, "Winds"),
+    (&[("Miller", "Berta")], 2014, "Mills", None),
+    (
+        &[("Knuth", "Donald E.")],
+        1992,
+        "Literate Programming",
+        None,
+    ),
+    (&[("Lee", "John")], 2010, "Winds", None),
     (
         &[
             ("Aho", "Alfred V."),
@@ -35,20 +43,33 @@ static ROWS: [Row; 12] = [
         ],
         1986,
         "Compilers",
+        None,
     ),
     (
         &[("Ng", "Ann"), ("Ode", "Bo"), ("Poe", "Cy")],
         2001,
         "Lakes",
+        None,
     ),
-    (&[("Berners-Lee", "Tim")], 1999, "Weaving the Web"),
-    (&[("Kwan", "Kevin")], 2014, "First Thoughts"),
-    (&[("Lee", "Jane")], 2010, "Tides"),
-    (&[("Miller", "Anna")], 2014, "Grain"),
+    (
+        &[("Berners-Lee", "Tim")],
+        1999,
+        "Weaving the Web",
+        Some("https://www.w3.org/People/Berners-Lee/Weaving/"),
+    ),
+    (&[("Kwan", "Kevin")], 2014, "First Thoughts", None),
+    (
+        &[("Lee", "Jane")],
+        2010,
+        "Tides",
+        Some("javascript:alert(1)"),
+    ),
+    (&[("Miller", "Anna")], 2014, "Grain", None),
     (
         &[("Kernighan", "Brian W."), ("Ritchie", "Dennis M.")],
         1978,
         "The C Programming Language",
+        None,
     ),
 ];
 
@@ -60,13 +81,32 @@ fn authors(alloc: Global, rows: &[Author]) -> Result<Vec<Person>, Error> {
     Ok(authors)
 }
 
+/// The text as an address, or `None` if it is no absolute URL. The scheme may be any.
+fn address_of(alloc: Global, text: &str) -> Result<Option<QualifiedUrl>, Memory> {
+    match Url::parse(alloc, text) {
+        Ok(value) => Ok(Some(QualifiedUrl {
+            value,
+            visit_date: None,
+        })),
+        Err(ParseError::OutOfMemory | ParseError::Overflow) => Err(Memory),
+        Err(_) => Ok(None),
+    }
+}
+
 fn work(alloc: Global, row: &Row) -> Result<Entry, Error> {
-    let (names, year, title) = *row;
+    let (names, year, title, address) = *row;
     let authors = authors(alloc, names)?;
+    let url = match address {
+        Some(text) => address_of(alloc, text)?,
+        None => None,
+    };
     let work = Entry::titled(alloc, title, EntryType::Book, title)?
         .with_authors(authors)
         .with_date(literature::Date::of_year(year));
-    Ok(work)
+    match url {
+        Some(url) => Ok(work.with_url(url)),
+        None => Ok(work),
+    }
 }
 
 /// The twelve works. The title of each is also its key.
@@ -149,13 +189,14 @@ fn number(alloc: Global) -> Result<LayoutRenderingElement, Error> {
     Ok(number.into())
 }
 
-/// The layout of the bibliography: the number, the authors, the year and the title.
+/// The layout of the bibliography: the number, the authors, the year, the title and the address.
 fn bibliography(alloc: Global) -> Result<Layout, Error> {
     let call = Text {
         affixes: Affixes::after(alloc, ".")?,
         ..Text::macro_call(alloc, "author-year-title")?
     };
-    let parts = vec![in alloc; number(alloc)?, call.into()]?;
+    let address = Text::variable(StandardVariable::URL.into());
+    let parts = vec![in alloc; number(alloc)?, call.into(), address.into()]?;
     let line = Group::delimited(alloc, " ", parts)?;
     Ok(Layout::new(vec![in alloc; line.into()]?))
 }

@@ -1,5 +1,6 @@
 //! A whole list, end to end, to be copied: works sorted, numbered, cited, disambiguated, listed.
 
+use crate::links;
 use csl::style::{Layout, NameVariable, Scope, Style};
 use csl::{
     BufWriteFormat, CitationNumber, CiteProperties, DisambiguateState, EntryLike, Error,
@@ -49,7 +50,8 @@ impl<'w, T: EntryLike> Listed<'w, T> {
         self.props.speculative.disambiguation = DisambiguateState::NameDisambiguation(names);
     }
 
-    /// The line of the work as HTML. It has the number and the suffix of the cite, not its names.
+    /// The line of the work as HTML. It has the number and the suffix of the cite, not its names,
+    /// and links to web addresses alone.
     ///
     /// # Errors
     /// [`Error::Memory`]: out of memory, here or in the entry.
@@ -59,7 +61,10 @@ impl<'w, T: EntryLike> Listed<'w, T> {
             *state = DisambiguateState::None;
         }
         match csl::bibliography_entry(alloc, style, self.work, &self.props)? {
-            Some(line) => Ok(line.content.to_text(alloc, BufWriteFormat::Html)?),
+            Some(line) => {
+                let line = links::with_web_links(alloc, line.content)?;
+                Ok(line.to_text(alloc, BufWriteFormat::Html)?)
+            }
             None => Ok(String::new(alloc)),
         }
     }
