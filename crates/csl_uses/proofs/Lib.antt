@@ -1,1 +1,2 @@
+mod Directions
 mod KeptLines

@@ -1,5 +1,7 @@
--- The web pages of the examples: the answers of a page, and its line in a numbered list.
-use Rattle.std.specs.Prelude.{ℕ, List, [], ◌∷◌, Option, Some, None, Bool, true, false, option_map, unwrap_or}
+-- The web pages of the examples: the answers of a page, its line in a numbered list, and the
+-- characters that a list drops.
+use Rattle.std.specs.Prelude.{ℕ, List, [], ◌∷◌, Option, Some, None, Bool, true, false, ◌||◌, option_map, unwrap_or}
+use Rattle.std.specs.Int.{is_in_range}
 use Rattle.csl.specs.Literature.Person.{PersonView, person_view}
 use Rattle.csl.specs.Literature.Text.{Chunk, chunks}
 use Rattle.csl.specs.Style.declared.taxonomy.Kind.{Kind}
@@ -49,3 +51,10 @@ numbered_cite number = record (first_cite no_disambiguation) { citation_number =
 abbrev pub numbered_line : StyleParts → ℕ → Answers → List Token
 numbered_line style number answers =
     unwrap_or (option_map (λ layout. (whole_cite style Bibliography (numbered_cite number) answers layout).content) style.bibliography) []
+
+-- ---- directions
+
+-- the character is an explicit formatting character of Unicode's bidirectional algorithm (UAX 9, 2):
+-- an embedding, an override, an isolate, or the end of one
+abbrev pub is_direction_control : ℕ → Bool
+is_direction_control c = is_in_range 0x202A 0x202E c || is_in_range 0x2066 0x2069 c

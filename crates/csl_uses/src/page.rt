@@ -1,8 +1,9 @@
 //! A reference list as a whole web page: texts are escaped, and only web addresses are links.
 
-ghost use Rattle.std.specs.Prelude.{◌≡◌, IfOk, string_bytes};
+ghost use Rattle.std.specs.Prelude.{◌≡◌, IfOk, filter, not, string_bytes};
+ghost use Rattle.std.specs.Str.{NonePass, chars};
 ghost use Rattle.csl.specs.Tree.Tokens.{tokens, leaf_text};
-ghost use Rattle.csl_uses.specs.Page.{answers_of, numbered_line};
+ghost use Rattle.csl_uses.specs.Page.{answers_of, is_direction_control, numbered_line};
 
 use crate::links;
 use csl::entry::SpeculativeCiteProperties;
@@ -10,7 +11,7 @@ use csl::literature::{
     ChunkedString, Date, LongShortForm, MaybeTyped, Numeric, PageRanges, Person,
 };
 use csl::style::{
-    Affixes, DateVariable, Display, FontVariant, Formatting, Group, Kind, Layout,
+    Affixes, DateVariable, Display, FontVariant, FontWeight, Formatting, Group, Kind, Layout,
     LayoutRenderingElement, NameVariable, Names, Number, NumberVariable, PageVariable,
     StandardVariable, Style, StyleSettings, Text,
 };
@@ -21,17 +22,20 @@ use csl::{
 use std::alloc::Global;
 use std::borrow::{Cow, CowStr};
 
-/// The part of the page before the list. A flex box ignores floats, so each number is beside its
-/// entry. Long addresses wrap. An author, a title and an address are each a `span` or an `a`, so a
-/// character in one of them that turns the direction of writing turns nothing else.
+/// The part of the page before the list. A line with boxes that float is a flex box, which ignores
+/// floats, so its number is beside its entry and keeps its width. Long words wrap, and marks that
+/// pile up stay in their line. Authors, title and address are each a `span` or an `a`, so a letter
+/// that is written from right to left turns nothing outside.
 const HEAD: &str = r#"<!doctype html>
 <html lang="en">
 <head>
 <meta charset="utf-8">
 <title>References</title>
 <style>
-.entry { display: flex; gap: 1em; margin: 0.5em 0; }
-.entry > div { min-width: 0; overflow-wrap: anywhere; }
+.entry { margin: 0.5em 0; overflow: clip; overflow-wrap: anywhere; }
+.entry:has(> [style^="float"]) { display: flex; gap: 1em; }
+.entry > div { min-width: 0; }
+.entry > [style^="float: left"] { flex: none; }
 .entry span, .entry a { unicode-bidi: isolate; }
 </style>
 </head>
@@ -141,7 +145,8 @@ fn web_page(alloc: Global, author: Person, title: &str, address: &str) -> Result
     })
 }
 
-/// Three web pages. The title of the second is a script, and so is the address of the third.
+/// Three web pages. The title of the second is a script, and so is the address of the third, whose
+/// title would turn the direction of writing to the end of its line.
 ///
 /// # Errors
 /// [`Error::Memory`]: out of memory.
@@ -159,8 +164,9 @@ pub fn web_pages(alloc: Global) -> Result<Vec<WebPage>, Error> {
     pages.push(web_page(alloc, author, title, address)?)?;
 
     let author = Person::institution(alloc, "Mallory & Sons")?;
+    let title = "A \u{2069}\u{202E}prize";
     let address = "javascript:alert(2)";
-    pages.push(web_page(alloc, author, "A prize", address)?)?;
+    pages.push(web_page(alloc, author, title, address)?)?;
     Ok(pages)
 }
 
@@ -174,7 +180,8 @@ fn number(alloc: Global) -> Result<LayoutRenderingElement, Error> {
     Ok(number.into())
 }
 
-/// The authors in small capitals, the title in italics and the address, to the right of the number.
+/// The authors in small capitals, the title in italics and the address in a light weight, to the
+/// right of the number. A text with a formatting is an element of its own.
 fn description(alloc: Global) -> Result<LayoutRenderingElement, Error> {
     let authors = vec![in alloc; NameVariable::Author]?;
     let formatting = Formatting {
@@ -189,7 +196,14 @@ fn description(alloc: Global) -> Result<LayoutRenderingElement, Error> {
         formatting: Formatting::italic(),
         ..Text::variable(StandardVariable::Title.into())
     };
-    let address = Text::variable(StandardVariable::URL.into());
+    let formatting = Formatting {
+        font_weight: Some(FontWeight::Light),
+        ..Formatting::default()
+    };
+    let address = Text {
+        formatting,
+        ..Text::variable(StandardVariable::URL.into())
+    };
     let parts = vec![in alloc; authors.into(), title.into(), address.into()]?;
     let affixes = Affixes::after(alloc, ".")?;
     let description = Group {
@@ -250,30 +264,56 @@ fn list_line<T: EntryLike>(
     }
 }
 
-/// The line of the entry at this place of the list as HTML, with links to these hosts alone.
+/// Whether a character turns the direction of writing until another one ends that, or is such an
+/// end. An end also closes the isolate that a browser opens for an element.
+fn is_direction_control(c: char) -> bool
+    ensures { result ≡ is_direction_control c }
+{
+    matches!(c, '\u{202A}'..='\u{202E}' | '\u{2066}'..='\u{2069}')
+}
+
+/// Drops the direction controls. An address has none either (RFC 3987, 4.1).
+fn drop_direction_controls(html: &mut String)
+    ensures { chars (string_bytes html.new)
+        ≡ filter (λ c. not (is_direction_control c)) (chars (string_bytes html.old)) }
+{
+    html.retain(|c| !is_direction_control(c));
+}
+
+/// The line of the entry at this place of the list as HTML, with links to these hosts alone and
+/// without direction controls.
 ///
 /// # Errors
 /// [`Error::Memory`]: out of memory, here or in the entry.
 /// [`Error::NotNumeric`]: there is no citation number for this place.
+#[tactic(auto, using(crate::proofs::Directions::none_left))]
 pub fn line_with_links_to<T: EntryLike>(
     alloc: Global,
     style: &Style,
     entry: &T,
     place: usize,
     hosts: &[&str],
-) -> Result<String, Error> {
+) -> Result<String, Error>
+    ensures { IfOk result (λ html. NonePass is_direction_control (chars (string_bytes html))) }
+{
     let line = list_line(alloc, style, entry, place)?;
     let line = links::with_links_to(alloc, line, hosts)?;
-    Ok(line.to_text(alloc, BufWriteFormat::Html)?)
+    let mut line = line.to_text(alloc, BufWriteFormat::Html)?;
+    drop_direction_controls(&mut line);
+    Ok(line)
 }
 
-/// A whole page of HTML: the bibliography of these entries in their order, numbered from 1.
+/// A whole page of HTML: the bibliography of these entries in their order, numbered from 1, without
+/// direction controls.
 ///
 /// # Errors
 /// [`Error::Memory`]: out of memory, here or in an entry.
 /// [`Error::NotNumeric`]: there are more entries than citation numbers.
 /// [`Error::Refused`]: out of memory while a line is added to the page.
-pub fn page<T: EntryLike>(alloc: Global, style: &Style, entries: &[T]) -> Result<String, Error> {
+#[tactic(auto, using(crate::proofs::Directions::none_left))]
+pub fn page<T: EntryLike>(alloc: Global, style: &Style, entries: &[T]) -> Result<String, Error>
+    ensures { IfOk result (λ html. NonePass is_direction_control (chars (string_bytes html))) }
+{
     let mut html = String::from_str(alloc, HEAD)?;
     for (place, entry) in entries.iter().enumerate() {
         let line = list_line(alloc, style, entry, place)?;
@@ -281,5 +321,6 @@ pub fn page<T: EntryLike>(alloc: Global, style: &Style, entries: &[T]) -> Result
         writeln!(&mut html, "<div class=\"entry\">{line}</div>")?;
     }
     html.push_str(TAIL)?;
+    drop_direction_controls(&mut html);
     Ok(html)
 }
