@@ -7,6 +7,7 @@
 //! - `namesakes`: cites that are disambiguated by more of their names;
 //! - `list`: a reference list that renders again only the lines that change;
 //! - `whole_list`: a whole list, from sort keys to HTML, over the works of `twelve`;
+//! - `finish`: doubled periods merged and punctuation in quotes, over the contents of `unfinished`;
 //! - `pair`: two entries of two types, and whether they are alike for a style;
 //! - `links`: which links of a content stay;
 //! - `page`: a reference list as a whole web page, or lines with links to given hosts alone.
@@ -17,6 +18,7 @@
 mod book;
 mod cite;
 mod film;
+mod finish;
 mod in_text;
 mod links;
 mod list;
@@ -24,6 +26,7 @@ mod namesakes;
 mod page;
 mod pair;
 mod twelve;
+mod unfinished;
 mod whole_list;
 
 use csl::literature::Entry;
@@ -224,6 +227,23 @@ fn show_whole_list(rt: &(impl Print + AllocGlobal)) -> Result<(), UseError> {
     shown
 }
 
+/// Prints contents, finished by the rules of a style.
+fn show_finished(rt: &(impl Print + AllocGlobal), style: &Style) -> Result<(), UseError> {
+    let contents = unfinished::finished(rt.alloc(), style)?;
+    for content in &contents {
+        println!(rt; "finished: {content}")?;
+    }
+    Ok(())
+}
+
+/// Prints contents, finished by a style that leaves commas and periods outside of quotes.
+fn show_finished_outside(rt: &(impl Print + AllocGlobal)) -> Result<(), UseError> {
+    let style = unfinished::outside_style(rt.alloc())?;
+    let shown = show_finished(rt, &style);
+    drop(style);
+    shown
+}
+
 /// Prints the cites of two entries, and whether the entries are alike for the style.
 fn show_pair<T: EntryLike, U: EntryLike>(
     rt: &(impl Print + AllocGlobal),
@@ -301,6 +321,8 @@ fn show_uses(
     show_namesakes(rt)?;
     show_list(rt, style)?;
     show_whole_list(rt)?;
+    show_finished(rt, style)?;
+    show_finished_outside(rt)?;
     show_titles(rt, film)?;
     show_likeness(rt, style, film)?;
     show_links(rt)?;
