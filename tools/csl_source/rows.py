@@ -8,8 +8,8 @@ from csl_source.elements import handed_down
 from csl_source.locales import OPTIONS, ORDINAL, locales_in_order, options_of
 from csl_source.styles import Style, plain
 
-# The locales of the library.
-LANGUAGES = ("en-US", "de-DE", "fr-FR")
+# The language of a style that names none of those of the library.
+LANGUAGE_OF_OTHERS = "en-US"
 NAME_OPTIONS = ("and", "delimiter-precedes-et-al", "delimiter-precedes-last", "et-al-min", "et-al-use-first", "et-al-subsequent-min",
                 "et-al-subsequent-use-first", "et-al-use-last", "initialize", "initialize-with", "name-as-sort-order", "sort-separator")
 INHERITED = ("name-form", "name-delimiter", "names-delimiter", *NAME_OPTIONS)
@@ -73,7 +73,7 @@ class Rows:
     def __init__(self, path):
         self.path, self.root = path, document(path, "style")
         wanted = self.root.get("default-locale")
-        self.language = wanted if wanted in LANGUAGES else LANGUAGES[0]
+        self.language = wanted if wanted in library.languages() else LANGUAGE_OF_OTHERS
         locale = Node(f"{CS}locale", {LANGUAGE: self.language})
         locale.place = path
         # (the other writer reads each attribute, and so refuses what is no CSL)

@@ -2,8 +2,8 @@
 -- for each row of the language, in the order of the rows, and the options of the language.
 -- - The term of a row has its form, its singular, and its plural if that differs, and no gender.
 -- - The term of a row with a gender is in the long form: a term has its gender there alone.
--- - There are two localized dates, the numeric one first. A part of a date has at most a form and a
---   suffix.
+-- - There are two localized dates, the numeric one first. A part of a date has at most a form and
+--   affixes.
 use Rattle.std.specs.Prelude.{◌≡◌, ℕ, false, List, [], ◌∷◌, ◌++◌, map, Option, Some, None, option_map}
 use Rattle.std.specs.Borrow.{Bor}
 use Rattle.csl_common.specs.declared.ordinal.GrammarGender.{GrammarGender}
@@ -33,17 +33,17 @@ gendered_term_of_row row = record { term = row.0; form = Long; single = row.2.no
 abbrev pub ordinal_of_row : OrdinalSlot × Option OrdinalMatch × Option GrammarGender × Bor (List ℕ) → OrdinalView
 ordinal_of_row row = record { slot = row.0; matching = row.1; gender = row.2; text = row.3.now }
 
-abbrev pub date_part_of_row : DatePartName × Option DateAnyForm × Option (Bor (List ℕ)) → DatePartNode
+abbrev pub date_part_of_row : DatePartName × Option DateAnyForm × Option (Bor (List ℕ)) × Option (Bor (List ℕ)) → DatePartNode
 date_part_of_row row = record {
   name = row.0;
   form = row.1;
   formatting = no_formatting;
-  affixes = record { prefix = None; suffix = option_map (λ t. t.now) row.2 };
+  affixes = record { prefix = option_map (λ t. t.now) row.2; suffix = option_map (λ t. t.now) row.3 };
   strip_periods = false;
 }
 
 -- the localized date of a form
-abbrev pub date_of_rows : DateForm → List (DatePartName × Option DateAnyForm × Option (Bor (List ℕ))) → DateNode
+abbrev pub date_of_rows : DateForm → List (DatePartName × Option DateAnyForm × Option (Bor (List ℕ)) × Option (Bor (List ℕ))) → DateNode
 date_of_rows form rows = record {
   variable = None;
   form = Some form;

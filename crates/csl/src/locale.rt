@@ -82,9 +82,11 @@ fn ordinals(alloc: Global, rows: &[OrdinalRow]) -> Result<Vec<OrdinalTerm>, Memo
 fn date_part(alloc: Global, row: &DatePartRow) -> Result<DatePart, Memory>
     ensures { IfOk result (λ part. view_date_part part ≡ date_part_of_row row.now) }
 {
-    let affixes = match row.2 {
-        Some(suffix) => Affixes::after(alloc, suffix)?,
-        None => Affixes::default(),
+    let affixes = match (row.2, row.3) {
+        (Some(prefix), Some(suffix)) => Affixes::around(alloc, prefix, suffix)?,
+        (Some(prefix), None) => Affixes::before(alloc, prefix)?,
+        (None, Some(suffix)) => Affixes::after(alloc, suffix)?,
+        (None, None) => Affixes::default(),
     };
     Ok(DatePart {
         form: row.1,

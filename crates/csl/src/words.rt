@@ -2,7 +2,7 @@
 //! rows like those here, and a function that returns its locale.
 //!
 //! The rows have the words, ordinals, dates and options of CSL's own locales;
-//! `tools/compare_locales` lists those that differ.
+//! `tools/language` writes them from these, and `tools/compare_locales` lists those that differ.
 
 use csl_style::{
     DateAnyForm, DatePartName, GrammarGender, OrdinalMatch, OrdinalSlot, Term, TermForm,
@@ -30,8 +30,13 @@ pub(crate) type OrdinalRow = (
     &'static str,
 );
 
-/// A part of a localized date, its form, and the text after it.
-pub(crate) type DatePartRow = (DatePartName, Option<DateAnyForm>, Option<&'static str>);
+/// A part of a localized date, its form, and the texts before and after it.
+pub(crate) type DatePartRow = (
+    DatePartName,
+    Option<DateAnyForm>,
+    Option<&'static str>,
+    Option<&'static str>,
+);
 
 /// What the locale of a language holds.
 pub(crate) struct Language {
