@@ -3,9 +3,9 @@
 //! A style and its locale are values. Nodes, options and terms are in [`style`], a work and its
 //! parts in [`literature`], the output tree in [`tree`]. [`cite`] and [`bibliography_entry`] render
 //! an entry of any type that implements [`EntryLike`]. For a single node, [`context`] has the
-//! context and [`render`] the calls. [`english`], [`german`] and [`french`] return locales to begin
-//! with: the words of CSL's own `en-US`, `de-DE` and `fr-FR`. The errors of all calls convert into
-//! [`Error`]. `docs/CALLING.md` has a whole program.
+//! context and [`render`] the calls. [`english`], [`german`], [`spanish`] and eight like them return
+//! locales to begin with, in the words of CSL's own. The errors of all calls convert into [`Error`].
+//! `docs/CALLING.md` has a whole program.
 #![tactic(auto)]
 
 mod error;
@@ -34,4 +34,7 @@ pub use csl_tree::{BufWriteFormat, ElemChildren, HtmlError, leaf_text_of_html};
 pub use error::Error;
 pub use lit_model as literature;
 pub use lit_model::{Entry, Memory, NumericError, is_web_address};
-pub use locale::{english, french, german};
+pub use locale::{
+    brazilian_portuguese, dutch, english, french, german, italian, japanese, polish, russian,
+    simplified_chinese, spanish,
+};

@@ -8,7 +8,8 @@ ghost use Rattle.csl.specs.Language.{IsOfLanguage, date_of_rows, date_part_of_ro
 ghost use Rattle.csl.specs.Language.{gendered_term_of_row, ordinal_of_row, term_of_row};
 
 use crate::words::{
-    DatePartRow, ENGLISH, FRENCH, GERMAN, GenderedTermRow, Language, OrdinalRow, TermRow,
+    BRAZILIAN_PORTUGUESE, DUTCH, DatePartRow, ENGLISH, FRENCH, GERMAN, GenderedTermRow, ITALIAN,
+    JAPANESE, Language, OrdinalRow, POLISH, RUSSIAN, SIMPLIFIED_CHINESE, SPANISH, TermRow,
 };
 use csl_style::{Affixes, Date, DateForm, DatePart, Locale, OrdinalTerm, TermEntry, TermForm};
 use lit_model::Memory;
@@ -166,4 +167,100 @@ pub fn french(alloc: Global) -> Result<Locale, Memory>
     ensures days { IfOk result (λ locale. locale.limit_day_ordinals_to_day_1 ≡ true) }
 {
     locale(alloc, &FRENCH)
+}
+
+/// Returns the Spanish locale, as [`english`] does the English one: all that CSL's own locale `es-ES`
+/// has. A comma or period stays outside a closing quote.
+///
+/// # Errors
+/// [`Memory`]: out of memory.
+pub fn spanish(alloc: Global) -> Result<Locale, Memory>
+    ensures quote { IfOk result (λ locale. locale.punctuation_in_quote ≡ false) }
+    ensures days { IfOk result (λ locale. locale.limit_day_ordinals_to_day_1 ≡ false) }
+{
+    locale(alloc, &SPANISH)
+}
+
+/// Returns the Italian locale, as [`english`] does the English one: all that CSL's own locale `it-IT`
+/// has. A comma or period stays outside a closing quote.
+///
+/// # Errors
+/// [`Memory`]: out of memory.
+pub fn italian(alloc: Global) -> Result<Locale, Memory>
+    ensures quote { IfOk result (λ locale. locale.punctuation_in_quote ≡ false) }
+    ensures days { IfOk result (λ locale. locale.limit_day_ordinals_to_day_1 ≡ false) }
+{
+    locale(alloc, &ITALIAN)
+}
+
+/// Returns the Portuguese locale, as [`english`] does the English one: all that CSL's own locale `pt-BR`
+/// has. A comma or period stays outside a closing quote.
+///
+/// # Errors
+/// [`Memory`]: out of memory.
+pub fn brazilian_portuguese(alloc: Global) -> Result<Locale, Memory>
+    ensures quote { IfOk result (λ locale. locale.punctuation_in_quote ≡ false) }
+    ensures days { IfOk result (λ locale. locale.limit_day_ordinals_to_day_1 ≡ true) }
+{
+    locale(alloc, &BRAZILIAN_PORTUGUESE)
+}
+
+/// Returns the Dutch locale, as [`english`] does the English one: all that CSL's own locale `nl-NL`
+/// has. A comma or period stays outside a closing quote.
+///
+/// # Errors
+/// [`Memory`]: out of memory.
+pub fn dutch(alloc: Global) -> Result<Locale, Memory>
+    ensures quote { IfOk result (λ locale. locale.punctuation_in_quote ≡ false) }
+    ensures days { IfOk result (λ locale. locale.limit_day_ordinals_to_day_1 ≡ false) }
+{
+    locale(alloc, &DUTCH)
+}
+
+/// Returns the Polish locale, as [`english`] does the English one: all that CSL's own locale `pl-PL`
+/// has. A comma or period stays outside a closing quote.
+///
+/// # Errors
+/// [`Memory`]: out of memory.
+pub fn polish(alloc: Global) -> Result<Locale, Memory>
+    ensures quote { IfOk result (λ locale. locale.punctuation_in_quote ≡ false) }
+    ensures days { IfOk result (λ locale. locale.limit_day_ordinals_to_day_1 ≡ false) }
+{
+    locale(alloc, &POLISH)
+}
+
+/// Returns the Russian locale, as [`english`] does the English one: all that CSL's own locale `ru-RU`
+/// has. A comma or period stays outside a closing quote.
+///
+/// # Errors
+/// [`Memory`]: out of memory.
+pub fn russian(alloc: Global) -> Result<Locale, Memory>
+    ensures quote { IfOk result (λ locale. locale.punctuation_in_quote ≡ false) }
+    ensures days { IfOk result (λ locale. locale.limit_day_ordinals_to_day_1 ≡ false) }
+{
+    locale(alloc, &RUSSIAN)
+}
+
+/// Returns the Japanese locale, as [`english`] does the English one: all that CSL's own locale `ja-JP`
+/// has. A comma or period stays outside a closing quote.
+///
+/// # Errors
+/// [`Memory`]: out of memory.
+pub fn japanese(alloc: Global) -> Result<Locale, Memory>
+    ensures quote { IfOk result (λ locale. locale.punctuation_in_quote ≡ false) }
+    ensures days { IfOk result (λ locale. locale.limit_day_ordinals_to_day_1 ≡ false) }
+{
+    locale(alloc, &JAPANESE)
+}
+
+/// Returns the Chinese locale, as [`english`] does the English one: all that CSL's own locale `zh-CN`
+/// has. A comma or period stays outside a closing quote.
+///
+/// # Errors
+/// [`Memory`]: out of memory.
+pub fn simplified_chinese(alloc: Global) -> Result<Locale, Memory>
+    ensures quote { IfOk result (λ locale. locale.punctuation_in_quote ≡ false) }
+    ensures days { IfOk result (λ locale. locale.limit_day_ordinals_to_day_1 ≡ false) }
+{
+    locale(alloc, &SIMPLIFIED_CHINESE)
 }

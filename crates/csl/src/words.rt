@@ -8,13 +8,29 @@ use csl_style::{
     DateAnyForm, DatePartName, GrammarGender, OrdinalMatch, OrdinalSlot, Term, TermForm,
 };
 
+mod brazilian_portuguese;
+mod dutch;
 mod english;
 mod french;
 mod german;
+mod italian;
+mod japanese;
+mod polish;
+mod russian;
+mod simplified_chinese;
+mod spanish;
 
+pub(crate) use brazilian_portuguese::BRAZILIAN_PORTUGUESE;
+pub(crate) use dutch::DUTCH;
 pub(crate) use english::ENGLISH;
 pub(crate) use french::FRENCH;
 pub(crate) use german::GERMAN;
+pub(crate) use italian::ITALIAN;
+pub(crate) use japanese::JAPANESE;
+pub(crate) use polish::POLISH;
+pub(crate) use russian::RUSSIAN;
+pub(crate) use simplified_chinese::SIMPLIFIED_CHINESE;
+pub(crate) use spanish::SPANISH;
 
 /// A term, its form, its singular, and its plural if that differs.
 pub(crate) type TermRow = (Term, TermForm, &'static str, Option<&'static str>);

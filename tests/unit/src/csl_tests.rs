@@ -2,6 +2,7 @@
 
 mod cites;
 mod contexts;
+mod eight_languages;
 mod english;
 mod errors;
 mod languages;

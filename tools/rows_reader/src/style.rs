@@ -10,7 +10,10 @@ use csl::style::{
     CslMacro, DemoteNonDroppingParticle, InheritableNameOptions, Layout, OrdinalSlot, OrdinalTerm,
     StyleSettings, TermEntry, TermForm,
 };
-use csl::{Locale, Style, english, french, german};
+use csl::{
+    Locale, Style, brazilian_portuguese, dutch, english, french, german, italian, japanese, polish,
+    russian, simplified_chinese, spanish,
+};
 
 fn macro_of(forms: &Forms<'_>) -> Result<CslMacro, Fault> {
     forms.ensure_attributes(&["name"])?;
@@ -90,6 +93,14 @@ fn default_locale(forms: &Forms<'_>) -> Result<Option<Locale>, Fault> {
         Some("en-US") => Ok(Some(english(forms.alloc)?)),
         Some("de-DE") => Ok(Some(german(forms.alloc)?)),
         Some("fr-FR") => Ok(Some(french(forms.alloc)?)),
+        Some("es-ES") => Ok(Some(spanish(forms.alloc)?)),
+        Some("it-IT") => Ok(Some(italian(forms.alloc)?)),
+        Some("ja-JP") => Ok(Some(japanese(forms.alloc)?)),
+        Some("nl-NL") => Ok(Some(dutch(forms.alloc)?)),
+        Some("pl-PL") => Ok(Some(polish(forms.alloc)?)),
+        Some("pt-BR") => Ok(Some(brazilian_portuguese(forms.alloc)?)),
+        Some("ru-RU") => Ok(Some(russian(forms.alloc)?)),
+        Some("zh-CN") => Ok(Some(simplified_chinese(forms.alloc)?)),
         Some(locale) => Err(forms.fault("no such locale", locale)),
     }
 }

@@ -79,14 +79,14 @@ static FRENCH_ORDINALS: [OrdinalRow; 6] = [
 ];
 
 /// A style with only this locale.
-fn style(alloc: Global, locale: Locale) -> Result<Style, Error> {
+pub(crate) fn style_in(alloc: Global, locale: Locale) -> Result<Style, Error> {
     let locales = vec![in alloc; locale]?;
     let citation = Layout::new(Vec::new(alloc));
     let settings = StyleSettings::default();
     Ok(Style::new(alloc, settings, Vec::new(alloc), citation, None, locales)?)
 }
 
-fn assert_terms(rt: &impl Abort, style: &Style, rows: &[Row]) {
+pub(crate) fn assert_terms(rt: &impl Abort, style: &Style, rows: &[Row]) {
     for row in rows {
         assert_term(rt, style, row);
     }
@@ -94,7 +94,7 @@ fn assert_terms(rt: &impl Abort, style: &Style, rows: &[Row]) {
 
 /// Asserts that both localized dates exist, that punctuation stays outside quotes, and whether day
 /// ordinals are limited.
-fn assert_settings(rt: &impl Abort, style: &Style, are_limited: bool) {
+pub(crate) fn assert_settings(rt: &impl Abort, style: &Style, are_limited: bool) {
     let numeric = style.localized_date(DateForm::Numeric).is_some();
     let text = style.localized_date(DateForm::Text).is_some();
     assert_same(rt, &(numeric, text), &(true, true));
@@ -105,7 +105,7 @@ fn assert_settings(rt: &impl Abort, style: &Style, are_limited: bool) {
 
 #[test]
 fn german_terms_ordinals_and_settings(rt: HostRuntime) -> Result<(), Fail> {
-    let style = style(rt.alloc(), german(rt.alloc())?)?;
+    let style = style_in(rt.alloc(), german(rt.alloc())?)?;
     assert_terms(&rt, &style, &GERMAN);
     assert_text(&rt, style.ordinals().suffix(21, None), Some("."));
     assert_text(&rt, style.ordinals().word(7, None), Some("siebter"));
@@ -133,7 +133,7 @@ fn assert_genders(rt: &impl Abort, style: &Style) {
 
 #[test]
 fn french_terms_genders_and_settings(rt: HostRuntime) -> Result<(), Fail> {
-    let style = style(rt.alloc(), french(rt.alloc())?)?;
+    let style = style_in(rt.alloc(), french(rt.alloc())?)?;
     assert_terms(&rt, &style, &FRENCH);
     for row in &FRENCH_ORDINALS {
         assert_ordinal(&rt, &style, row);

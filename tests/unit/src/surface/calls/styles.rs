@@ -69,6 +69,14 @@ fn languages() {
     let _: fn(Global) -> Result<Locale, Memory> = csl::english;
     let _: fn(Global) -> Result<Locale, Memory> = csl::german;
     let _: fn(Global) -> Result<Locale, Memory> = csl::french;
+    let _: fn(Global) -> Result<Locale, Memory> = csl::spanish;
+    let _: fn(Global) -> Result<Locale, Memory> = csl::italian;
+    let _: fn(Global) -> Result<Locale, Memory> = csl::brazilian_portuguese;
+    let _: fn(Global) -> Result<Locale, Memory> = csl::dutch;
+    let _: fn(Global) -> Result<Locale, Memory> = csl::polish;
+    let _: fn(Global) -> Result<Locale, Memory> = csl::russian;
+    let _: fn(Global) -> Result<Locale, Memory> = csl::japanese;
+    let _: fn(Global) -> Result<Locale, Memory> = csl::simplified_chinese;
 }
 
 fn is_suppressed(options: NameOptions<'_>, idx: usize, len: usize, subsequent: bool) {
