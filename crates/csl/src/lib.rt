@@ -3,7 +3,7 @@
 //! A style and its locale are values. Nodes, options and terms are in [`style`], a work and its
 //! parts in [`literature`], the output tree in [`tree`]. [`cite`] and [`bibliography_entry`] render
 //! an entry of any type that implements [`EntryLike`]. For a single node, [`context`] has the
-//! context and [`render`] the calls. [`english`], [`german`], [`spanish`] and eight like them return
+//! context and [`render`] the calls. [`english`], [`german`], [`spanish`] and seven like them return
 //! locales to begin with, in the words of CSL's own. The errors of all calls convert into [`Error`].
 //! `docs/CALLING.md` has a whole program.
 #![tactic(auto)]
@@ -35,6 +35,6 @@ pub use error::Error;
 pub use lit_model as literature;
 pub use lit_model::{Entry, Memory, NumericError, is_web_address};
 pub use locale::{
-    brazilian_portuguese, dutch, english, french, german, italian, japanese, polish, russian,
+    brazilian_portuguese, dutch, english, french, german, italian, japanese, polish,
     simplified_chinese, spanish,
 };

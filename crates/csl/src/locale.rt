@@ -9,7 +9,7 @@ ghost use Rattle.csl.specs.Language.{gendered_term_of_row, ordinal_of_row, term_
 
 use crate::words::{
     BRAZILIAN_PORTUGUESE, DUTCH, DatePartRow, ENGLISH, FRENCH, GERMAN, GenderedTermRow, ITALIAN,
-    JAPANESE, Language, OrdinalRow, POLISH, RUSSIAN, SIMPLIFIED_CHINESE, SPANISH, TermRow,
+    JAPANESE, Language, OrdinalRow, POLISH, SIMPLIFIED_CHINESE, SPANISH, TermRow,
 };
 use csl_style::{Affixes, Date, DateForm, DatePart, Locale, OrdinalTerm, TermEntry, TermForm};
 use lit_model::Memory;
@@ -227,18 +227,6 @@ pub fn polish(alloc: Global) -> Result<Locale, Memory>
     ensures days { IfOk result (λ locale. locale.limit_day_ordinals_to_day_1 ≡ false) }
 {
     locale(alloc, &POLISH)
-}
-
-/// Returns the Russian locale, as [`english`] does the English one: all that CSL's own locale `ru-RU`
-/// has. A comma or period stays outside a closing quote.
-///
-/// # Errors
-/// [`Memory`]: out of memory.
-pub fn russian(alloc: Global) -> Result<Locale, Memory>
-    ensures quote { IfOk result (λ locale. locale.punctuation_in_quote ≡ false) }
-    ensures days { IfOk result (λ locale. locale.limit_day_ordinals_to_day_1 ≡ false) }
-{
-    locale(alloc, &RUSSIAN)
 }
 
 /// Returns the Japanese locale, as [`english`] does the English one: all that CSL's own locale `ja-JP`

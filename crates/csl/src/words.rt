@@ -16,7 +16,6 @@ mod german;
 mod italian;
 mod japanese;
 mod polish;
-mod russian;
 mod simplified_chinese;
 mod spanish;
 
@@ -28,7 +27,6 @@ pub(crate) use german::GERMAN;
 pub(crate) use italian::ITALIAN;
 pub(crate) use japanese::JAPANESE;
 pub(crate) use polish::POLISH;
-pub(crate) use russian::RUSSIAN;
 pub(crate) use simplified_chinese::SIMPLIFIED_CHINESE;
 pub(crate) use spanish::SPANISH;
 

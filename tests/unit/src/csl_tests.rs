@@ -2,9 +2,9 @@
 
 mod cites;
 mod contexts;
-mod eight_languages;
 mod english;
 mod errors;
 mod languages;
 mod lists;
+mod more_languages;
 mod terms;

@@ -12,7 +12,7 @@ use csl::style::{
 };
 use csl::{
     Locale, Style, brazilian_portuguese, dutch, english, french, german, italian, japanese, polish,
-    russian, simplified_chinese, spanish,
+    simplified_chinese, spanish,
 };
 
 fn macro_of(forms: &Forms<'_>) -> Result<CslMacro, Fault> {
@@ -99,7 +99,6 @@ fn default_locale(forms: &Forms<'_>) -> Result<Option<Locale>, Fault> {
         Some("nl-NL") => Ok(Some(dutch(forms.alloc)?)),
         Some("pl-PL") => Ok(Some(polish(forms.alloc)?)),
         Some("pt-BR") => Ok(Some(brazilian_portuguese(forms.alloc)?)),
-        Some("ru-RU") => Ok(Some(russian(forms.alloc)?)),
         Some("zh-CN") => Ok(Some(simplified_chinese(forms.alloc)?)),
         Some(locale) => Err(forms.fault("no such locale", locale)),
     }

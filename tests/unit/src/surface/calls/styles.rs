@@ -74,7 +74,6 @@ fn languages() {
     let _: fn(Global) -> Result<Locale, Memory> = csl::brazilian_portuguese;
     let _: fn(Global) -> Result<Locale, Memory> = csl::dutch;
     let _: fn(Global) -> Result<Locale, Memory> = csl::polish;
-    let _: fn(Global) -> Result<Locale, Memory> = csl::russian;
     let _: fn(Global) -> Result<Locale, Memory> = csl::japanese;
     let _: fn(Global) -> Result<Locale, Memory> = csl::simplified_chinese;
 }

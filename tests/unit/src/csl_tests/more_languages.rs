@@ -1,4 +1,4 @@
-//! Tests of the eight languages that `languages` leaves: some terms, the gender of a volume, ordinals
+//! Tests of the languages that `languages` leaves: some terms, the gender of a volume, ordinals
 //! and the options. The rows of `tests/rows` render in these languages. The expected texts are those
 //! of CSL's own locales.
 
@@ -13,8 +13,7 @@ use csl::style::{
     OtherTerm as Word, PageVariable,
 };
 use csl::{
-    Style, brazilian_portuguese, dutch, italian, japanese, polish, russian, simplified_chinese,
-    spanish,
+    Style, brazilian_portuguese, dutch, italian, japanese, polish, simplified_chinese, spanish,
 };
 use std::process::Abort;
 use std::test::Fail;
@@ -72,15 +71,6 @@ static POLISH: [Row; 6] = [
     (Name(Role::Translator), VerbShort, "tłum.", "tłum."),
     (Number(Quantity::Volume), Long, "tom", "tomy"),
     (Page(PageVariable::Page), Short, "s.", "s."),
-];
-
-static RUSSIAN: [Row; 6] = [
-    (Other(Word::And), Long, "и", "и"),
-    (Other(Word::CloseInnerQuote), Long, "“", "“"),
-    (Name(Role::Editor), Long, "редактор", "редакторы"),
-    (Number(Quantity::Volume), Long, "том", "тома"),
-    (Page(PageVariable::Page), Long, "страница", "страницы"),
-    (Locator(Place::Chapter), Short, "гл.", "гл."),
 ];
 
 static JAPANESE: [Row; 6] = [
@@ -162,17 +152,6 @@ fn polish_terms_ordinals_and_settings(rt: HostRuntime) -> Result<(), Fail> {
     assert_terms(&rt, &style, &POLISH);
     assert_ordinals(&rt, &style, ".", Some("trzeci"));
     assert_gender(&rt, &style, None);
-    assert_settings(&rt, &style, false);
-    drop(style);
-    Ok(())
-}
-
-#[test]
-fn russian_terms_ordinals_and_settings(rt: HostRuntime) -> Result<(), Fail> {
-    let style = style_in(rt.alloc(), russian(rt.alloc())?)?;
-    assert_terms(&rt, &style, &RUSSIAN);
-    assert_ordinals(&rt, &style, "-е", Some("третье"));
-    assert_gender(&rt, &style, Some(GrammarGender::Masculine));
     assert_settings(&rt, &style, false);
     drop(style);
     Ok(())
