@@ -7,6 +7,7 @@
 //! - `namesakes`: cites that are disambiguated by more of their names;
 //! - `list`: a reference list that renders again only the lines that change;
 //! - `whole_list`: a whole list, from sort keys to HTML, over the works of `twelve`;
+//! - `fold`: sort keys in which case and accents do not count;
 //! - `finish`: doubled periods merged and punctuation in quotes, over the contents of `unfinished`;
 //! - `pair`: two entries of two types, and whether they are alike for a style;
 //! - `links`: which links of a content stay;
@@ -19,6 +20,7 @@ mod book;
 mod cite;
 mod film;
 mod finish;
+mod fold;
 mod in_text;
 mod links;
 mod list;
@@ -219,12 +221,47 @@ fn show_twelve(rt: &(impl Print + AllocGlobal), style: &Style) -> Result<(), Use
     shown
 }
 
-/// Prints a whole list.
-fn show_whole_list(rt: &(impl Print + AllocGlobal)) -> Result<(), UseError> {
+/// Three books of one year, two of them by one of two Millers.
+fn books_by_millers(alloc: Global) -> Result<Vec<Entry>, Error> {
+    let berta = namesakes::book_by_miller(alloc, "Berta")?;
+    let anna = namesakes::book_by_miller(alloc, "Anna")?;
+    let again = namesakes::book_by_miller(alloc, "Anna")?;
+    Ok(vec![in alloc; berta, anna, again]?)
+}
+
+/// Prints the cite and the line of each of the three books.
+fn show_by_millers(rt: &(impl Print + AllocGlobal), style: &Style) -> Result<(), UseError> {
+    let books = books_by_millers(rt.alloc())?;
+    let key = twelve::sort_key(rt.alloc())?;
+    let shown = show_listed(rt, style, &key, &books);
+    drop(key);
+    drop(books);
+    shown
+}
+
+/// Prints two whole lists in this style.
+fn show_lists_in(rt: &(impl Print + AllocGlobal), style: &Style) -> Result<(), UseError> {
+    show_twelve(rt, style)?;
+    show_by_millers(rt, style)
+}
+
+/// Prints two whole lists.
+fn show_whole_lists(rt: &(impl Print + AllocGlobal)) -> Result<(), UseError> {
     let style = twelve::author_date_style(rt.alloc())?;
-    let shown = show_twelve(rt, &style);
+    let shown = show_lists_in(rt, &style);
     drop(style);
     shown
+}
+
+/// Prints names in the order of their folds.
+fn show_folds(rt: &(impl Print + AllocGlobal)) -> Result<(), UseError> {
+    for name in ["Ærø", "Çelik", "Łukasz", "Öhm", "Olsen", "Straße"] {
+        println!(rt;
+            "{name}: {}",
+            fold::fold(rt.alloc(), name).map_err(Error::from)?
+        )?;
+    }
+    Ok(())
 }
 
 /// Prints contents, finished by the rules of a style.
@@ -320,7 +357,8 @@ fn show_uses(
     show_in_text(rt)?;
     show_namesakes(rt)?;
     show_list(rt, style)?;
-    show_whole_list(rt)?;
+    show_whole_lists(rt)?;
+    show_folds(rt)?;
     show_finished(rt, style)?;
     show_finished_outside(rt)?;
     show_titles(rt, film)?;

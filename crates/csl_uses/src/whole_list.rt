@@ -1,21 +1,28 @@
 //! A whole list, end to end, to be copied: works sorted, numbered, cited, disambiguated, listed.
 
-use crate::links;
+use crate::{finish, fold};
 use csl::style::{Layout, NameVariable, Scope, Style};
 use csl::{
-    BufWriteFormat, CitationNumber, CiteProperties, DisambiguateState, EntryLike, Error,
-    NameDisambiguationProperties, Rendered, Snapshot, Sorting,
+    BufWriteFormat, CitationNumber, CiteProperties, DisambiguateState, ElemChildren, EntryLike,
+    Error, NameDisambiguationProperties, Rendered, Snapshot, Sorting,
 };
 use std::alloc::Global;
+use std::mem;
 
 /// A work of the list with its cite as text. The snapshot has what the citation's layout names.
 #[derive(Drop)]
 pub struct Listed<'w, T> {
     work: &'w T,
-    key: String,
+    /// The sort key, folded and as it is.
+    key: (String, String),
     snapshot: Snapshot,
     props: CiteProperties<'static>,
     names: Option<NameDisambiguationProperties>,
+    content: ElemChildren,
+    /// The number of cites that this one equals, itself included.
+    equal: usize,
+    /// The cite that was the last to equal fewer others than the one before it.
+    told_apart: Option<ElemChildren>,
     pub cite: String,
 }
 
@@ -27,14 +34,40 @@ const SUFFIX: usize = 6;
 impl<'w, T: EntryLike> Listed<'w, T> {
     fn render_cite(&mut self, alloc: Global, style: &Style) -> Result<(), Error> {
         let Rendered { content, state } = csl::cite(alloc, style, &self.snapshot, &self.props)?;
-        self.cite = content.to_text(alloc, BufWriteFormat::Plain)?;
+        self.content = content;
+        if let DisambiguateState::YearSuffix(_) = self.props.speculative.disambiguation {
+            self.put_names();
+        }
+        self.cite = self.content.to_text(alloc, BufWriteFormat::Plain)?;
         self.names = state.first_names;
         Ok(())
     }
 
+    /// Puts the names that tell the cite apart from some others into it.
+    fn put_names(&mut self) {
+        let Some(told_apart) = &mut self.told_apart else {
+            return;
+        };
+        if let (Some(names), Some(kept)) = (
+            self.content.find_names_mut(),
+            told_apart.find_names_mut(),
+        ) {
+            mem::swap(names, kept);
+        }
+    }
+
+    /// Keeps the cite if it equals fewer others than the one before it.
+    fn keep_if_told_apart(&mut self, alloc: Global, equal: usize) {
+        if equal < self.equal {
+            let content = mem::replace(&mut self.content, ElemChildren::new(alloc));
+            self.told_apart = Some(content);
+        }
+        self.equal = equal;
+    }
+
     /// Shows more of the cite, in CSL's order. Steps 0 and 1 show two authors, then three; 2 and 3
     /// the initials of the first, then the given name; 4 and 5 those of the second. The last shows
-    /// the names as at first, with a suffix: the number of equal cites before this one.
+    /// a suffix: the number of equal cites before this one.
     fn show_more(&mut self, step: usize, equal_before: usize) {
         let Some(mut names) = self.names.take().filter(|_| step < SUFFIX) else {
             let suffix = u16::try_from(equal_before).unwrap_or(u16::MAX);
@@ -50,8 +83,8 @@ impl<'w, T: EntryLike> Listed<'w, T> {
         self.props.speculative.disambiguation = DisambiguateState::NameDisambiguation(names);
     }
 
-    /// The line of the work as HTML. It has the number and the suffix of the cite, not its names,
-    /// and links to web addresses alone.
+    /// The line of the work as HTML, finished. It has the number and the suffix of the cite, not its
+    /// names.
     ///
     /// # Errors
     /// [`Error::Memory`]: out of memory, here or in the entry.
@@ -62,15 +95,16 @@ impl<'w, T: EntryLike> Listed<'w, T> {
         }
         match csl::bibliography_entry(alloc, style, self.work, &self.props)? {
             Some(line) => {
-                let line = links::with_web_links(alloc, line.content)?;
-                Ok(line.to_text(alloc, BufWriteFormat::Html)?)
+                let mut content = line.content;
+                finish::finish(alloc, style, &mut content)?;
+                Ok(content.to_text(alloc, BufWriteFormat::Html)?)
             }
             None => Ok(String::new(alloc)),
         }
     }
 }
 
-/// The works by their sort keys, which are compared byte by byte.
+/// The works by their sort keys. Case and accents count only between keys that are equal without.
 fn sorted<'w, T: EntryLike>(
     alloc: Global,
     style: &Style,
@@ -83,6 +117,7 @@ fn sorted<'w, T: EntryLike>(
     for work in works {
         let props = CiteProperties::first(DisambiguateState::None);
         let key = csl::sort_key(alloc, style, work, &props, key, scope, sorting)?;
+        let key = (fold::fold(alloc, key.as_str())?, key);
         let snapshot = Snapshot::new(alloc, work, &named)?;
         list.push(Listed {
             work,
@@ -90,6 +125,9 @@ fn sorted<'w, T: EntryLike>(
             snapshot,
             props,
             names: None,
+            content: ElemChildren::new(alloc),
+            equal: 0,
+            told_apart: None,
             cite: String::new(alloc),
         })?;
     }
@@ -107,15 +145,15 @@ fn cite<T: EntryLike>(alloc: Global, style: &Style, list: &mut List<'_, T>) -> R
     Ok(())
 }
 
-/// For each work the number of equal cites before it, or `None` if no other cite is equal.
-fn equal_before<T>(alloc: Global, list: &List<'_, T>) -> Result<Vec<Option<usize>>, Error> {
-    let mut equal_before = Vec::new(alloc);
+/// For each work the number of cites that equal its own, itself included, and of those before it.
+fn equal_cites<T>(alloc: Global, list: &List<'_, T>) -> Result<Vec<(usize, usize)>, Error> {
+    let mut counts = Vec::new(alloc);
     for (place, work) in list.iter().enumerate() {
-        let count = list.iter().filter(|it| it.cite == work.cite).count();
+        let equal = list.iter().filter(|it| it.cite == work.cite).count();
         let before = list.iter().take(place).filter(|it| it.cite == work.cite);
-        equal_before.push((count > 1).then_some(before.count()))?;
+        counts.push((equal, before.count()))?;
     }
-    Ok(equal_before)
+    Ok(counts)
 }
 
 /// Takes a step at each cite that another one equals.
@@ -125,10 +163,11 @@ fn disambiguate<T: EntryLike>(
     list: &mut List<'_, T>,
     step: usize,
 ) -> Result<(), Error> {
-    let equal_before = equal_before(alloc, list)?;
-    for (work, equal_before) in list.iter_mut().zip(equal_before) {
-        if let Some(equal_before) = equal_before {
-            work.show_more(step, equal_before);
+    let counts = equal_cites(alloc, list)?;
+    for (work, (equal, before)) in list.iter_mut().zip(counts) {
+        if equal > 1 {
+            work.keep_if_told_apart(alloc, equal);
+            work.show_more(step, before);
             work.render_cite(alloc, style)?;
         }
     }
