@@ -5,8 +5,6 @@ import textwrap, unicodedata
 LINE, ARGUMENTS, ITEMS, FIELDS = 100, 60, 59, 18
 # Rather than more lines than this for several parts, or for one, a function calls others.
 STEPS, ONE = 26, 34
-# A space at which no line of a comment ends.
-NO_BREAK = "\N{NO-BREAK SPACE}"
 KEYWORDS = set(
     "abstract alloc as async await become box break const continue crate data do dyn else ensures enum extern false final fn for gen ghost if "
     "impl in invariant let loop macro match mod move mut open override priv prove pub record ref requires return ruleset self static struct "
@@ -31,11 +29,11 @@ def quoted(text):
     return f'"{"".join(map(one, text))}"'
 
 
-def comment(text, indent, mark="///"):
+def comment(text: str, indent: int, mark: str = "///") -> list[str]:
     """The lines of a comment."""
     begin = f"{' ' * indent}{mark} "
-    lines = textwrap.wrap(text, LINE, initial_indent=begin, subsequent_indent=begin, break_on_hyphens=False, break_long_words=False)
-    return [it.replace(NO_BREAK, " ") for it in lines]
+    how = {"initial_indent": begin, "subsequent_indent": begin}
+    return textwrap.wrap(text, LINE, break_on_hyphens=False, break_long_words=False, **how)
 
 
 def snake(text, instead):

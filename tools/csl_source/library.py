@@ -1,4 +1,5 @@
-"""The names that a style may use, read from the sources of the library: a new variable, kind, term or option is known at once."""
+"""The names that a style may use, read from the sources of the library: a new variable, kind, term or option
+is known at once."""
 import functools, glob, os, re
 
 TOP = os.path.dirname(os.path.dirname(os.path.dirname(os.path.realpath(__file__))))
@@ -36,10 +37,22 @@ def csl_name(variant):
 
 
 @functools.cache
-def variants(enum):
+def read_names() -> dict[str, dict[str, str]]:
+    """The variants that each `from_name` reads, by their names."""
+    found, arm = {}, re.compile(r'^ +"([\w -]+)" => Some\(((\w+)::\w+(?:\([\w:]+\))?)\),$', re.M)
+    for text in sources():
+        for name, it, enum in arm.findall(text):
+            found.setdefault(enum, {})[name] = it
+    return found
+
+
+@functools.cache
+def variants(enum: str) -> dict[str, str]:
     """The variants of an enum, by the names that its `from_name` reads, else by their names in CSL."""
-    read = re.findall(rf'^ +"([\w -]+)" => Some\(({enum}::\w+(?:\([\w:]+\))?)\),$', "".join(sources()), re.M)
-    names = dict(read) or {csl_name(it): f"{enum}::{it}" for it in re.findall(r"^    (\w+),$", body(f"pub enum {enum} "), re.M)}
+    names = read_names().get(enum)
+    if names is None:
+        arms = re.findall(r"^    (\w+),$", body(f"pub enum {enum} "), re.M)
+        names = {csl_name(it): f"{enum}::{it}" for it in arms}
     return names | {other: names[name] for other, name in OTHER_SPELLINGS.items() if name in names}
 
 
@@ -67,9 +80,28 @@ def locators():
 
 @functools.cache
 def terms():
-    """What the library has for the name of a term. `page` is two terms here, one of a variable and one of a locator."""
+    """What the library has for the name of a term. `page` is two terms here, one of a variable and one of a
+    locator."""
     found = {}
     for sort, enum in re.findall(r"^    (\w+)\((\w+)\),$", body("pub enum Term "), re.M):
         for name, it in (locators() if enum == "Locator" else variants(enum)).items():
             found.setdefault(name, []).append(f"Term::{sort}({it})")
     return found
+
+
+@functools.cache
+def languages() -> dict[str, tuple[str, tuple[str, str]]]:
+    """The languages that the library has a locale of, by their names in CSL: the call that returns it, and
+    its options `punctuation-in-quote` and `limit-day-ordinals-to-day-1`."""
+    found = {}
+    for path in sorted(glob.glob(f"{TOP}/crates/csl/src/words/*.rt")):
+        with open(path, encoding="utf-8") as it:
+            text = it.read()
+        name = re.search(r"CSL's own locale\s+(?://! )?`([\w-]+)`", text)
+        options = [re.search(rf"^    {it}: (true|false),$", text, re.M)
+                   for it in ("punctuation_in_quote", "limit_day_ordinals_to_day_1")]
+        if None in (name, *options):
+            raise SystemExit(f"tools/style: {path} does not name its locale of CSL and both options")
+        found[name[1]] = os.path.basename(path).removesuffix(".rt"), tuple(it[1] for it in options)
+    # (English is what a style takes whose language is none of these)
+    return {"en-US": found["en-US"]} | found

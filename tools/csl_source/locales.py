@@ -1,9 +1,9 @@
 """The locales of a style, as tables of terms and the functions that read them."""
-import re
+import collections, os, re
 from csl_source import library
 from csl_source.attributes import Attributes
 from csl_source.code import Call, Local, Row, lines_of, over, quoted, snake, unique
-from csl_source.document import CS, LANGUAGE
+from csl_source.document import CS, LANGUAGE, Node, Refused, document
 
 ORDINAL = re.compile(r"(long-)?ordinal(?:-(\d\d))?")
 OPTIONS = ("punctuation-in-quote", "limit-day-ordinals-to-day-1")
@@ -68,6 +68,37 @@ fn add_ordinals(alloc: Global, locale: &mut Locale, rows: &[OrdinalRow]) -> Resu
 }
 
 
+class BuiltIn(Node):
+    """A locale of the library, by the call that makes it. It holds the library's options."""
+
+    def __init__(self, language: str):
+        call, options = library.languages()[language]
+        super().__init__(f"{CS}locale", {LANGUAGE: language})
+        self.call, self.place = call, language
+        given = Node(f"{CS}style-options", dict(zip(OPTIONS, options)))
+        given.place = language
+        self.append(given)
+
+
+def built_in(word: str) -> "BuiltIn | None":
+    """The library's locale of a language, named as in `en-US` or `en`."""
+    known = {it.lower(): it for it in library.languages()}
+    known |= {it.split("-")[0]: language for it, language in known.items()}
+    return BuiltIn(known[word.lower()]) if word.lower() in known else None
+
+
+def locale_of(word: str) -> Node:
+    """The locale of a language of the library, or else of a file."""
+    if not os.path.exists(word):
+        found = built_in(word)
+        if found is not None:
+            return found
+        if re.fullmatch(r"[A-Za-z]{2,3}(-\w+)?", word):
+            known = ", ".join(library.languages())
+            raise Refused(f"{word}: the library has {known}: of another language give the locale's file")
+    return document(word, "locale")
+
+
 def languages(locale):
     """The language of a locale, and the language without its region."""
     name = locale.get(LANGUAGE, "").lower()
@@ -82,12 +113,13 @@ def locales_in_order(style, files, left):
     return [it for language in wanted for it in own if languages(it)[0] == language] + files
 
 
-def options_of(locales, left):
+def options_of(locales: list[Node], left: collections.Counter) -> dict[str, str]:
     """The options of all locales together: the first that sets one counts."""
     found = {}
     for node in [it for locale in locales for it in locale.findall(f"{CS}style-options")]:
         given = Attributes(node, left)
-        found = {name: given.flag(name) for name in OPTIONS} | {name: it for name, it in found.items() if it}
+        own = {name: given.flag(name) for name in OPTIONS}
+        found = {name: it for name, it in own.items() if it is not None} | found
         given.end()
     return found
 

@@ -1,19 +1,21 @@
 """A whole style in the notation of tests/rows: a line `base`, which the rows after it are rendered in."""
-import collections, os, re
+import collections, os
+from typing import Iterator
+
 from csl_source import library
 from csl_source.attributes import FORMATTING
 from csl_source.code import comment
 from csl_source.document import CS, LANGUAGE, Node, document
 from csl_source.elements import handed_down
-from csl_source.locales import OPTIONS, ORDINAL, locales_in_order, options_of
-from csl_source.styles import Style, plain
+from csl_source.locales import OPTIONS, ORDINAL, BuiltIn, built_in, locale_of, locales_in_order, options_of
+from csl_source.notation import CONTROL, Form, attribute, filled, in_quotes
+from csl_source.styles import LOOKS, TEXTS, Style, plain
 
-# The language of a style that names none of those of the library.
-LANGUAGE_OF_OTHERS = "en-US"
 NAME_OPTIONS = ("and", "delimiter-precedes-et-al", "delimiter-precedes-last", "et-al-min", "et-al-use-first", "et-al-subsequent-min",
                 "et-al-subsequent-use-first", "et-al-use-last", "initialize", "initialize-with", "name-as-sort-order", "sort-separator")
 INHERITED = ("name-form", "name-delimiter", "names-delimiter", *NAME_OPTIONS)
-NUMBERS = ("et-al-min", "et-al-use-first", "et-al-subsequent-min", "et-al-subsequent-use-first")
+NUMBERS = ("et-al-min", "et-al-use-first", "et-al-subsequent-min", "et-al-subsequent-use-first", "entry-spacing",
+           "line-spacing")
 AFFIXES = ("prefix", "suffix")
 # The attributes of each element that the notation has, beside a formatting. Affixes may go to a group around it.
 OWN = {
@@ -28,58 +30,23 @@ OWN = {
 }
 TESTS = ("match", "disambiguate", "is-numeric", "is-uncertain-date", "locator", "position", "type", "variable")
 BREAKS = "line breaks and other control characters in texts (written as spaces)"
-CONTROL = re.compile("[\0-\x1f\x7f-\x9f\u2028\u2029]")
-LINE = 100
-
-
-class Form:
-    """A list in parentheses: a word, attributes, and the words, texts and lists in it."""
-
-    def __init__(self, head, attributes=(), parts=()):
-        self.head, self.attributes, self.parts = head, list(attributes), list(parts)
-
-    def flat(self):
-        return f"({' '.join([self.head, *self.attributes, *(it if isinstance(it, str) else it.flat() for it in self.parts)])})"
-
-    def lines(self, indent):
-        """The lines of the list. No text is broken."""
-        space, text = " " * indent, self.flat()
-        if len(space + text) <= LINE:
-            return [space + text]
-        found = filled(f"{space}({self.head}", self.attributes, indent + 2)
-        for it in self.parts:
-            if isinstance(it, Form):
-                found += it.lines(indent + 2)
-            else:
-                found[-1:] = filled(found[-1], [it], indent + 2)
-        found[-1] += ")"
-        return found
-
-
-def filled(line, words, indent):
-    """The line with these words after it, on further lines once it is full."""
-    found = [line]
-    for it in words:
-        if len(f"{found[-1]} {it}") > LINE:
-            found.append(" " * indent + it)
-        else:
-            found[-1] += f" {it}"
-    return found
 
 
 class Rows:
-    """Writes a style. `left` counts what the library leaves out, and the notation."""
+    """Writes a style, in a language of the library or in that of a locale's file. Without one it is the library's
+    for the style's language, or else English. `left` counts what the library leaves out, and the notation."""
 
-    def __init__(self, path):
+    def __init__(self, path: str, locale: str | None = None):
         self.path, self.root = path, document(path, "style")
-        wanted = self.root.get("default-locale")
-        self.language = wanted if wanted in library.languages() else LANGUAGE_OF_OTHERS
-        locale = Node(f"{CS}locale", {LANGUAGE: self.language})
-        locale.place = path
+        wanted = self.root.get("default-locale", "")
+        if locale is None:
+            self.locale = built_in(wanted) or built_in(wanted.split("-")[0]) or built_in("en-US")
+        else:
+            self.locale = locale_of(locale)
         # (the other writer reads each attribute, and so refuses what is no CSL)
-        style = Style(path, [(path, locale)])
+        style = Style(path, [(locale or path, self.locale)])
         style.text()
-        self.left, self.library = style.left, locale
+        self.left, self.language = style.left, self.locale.get(LANGUAGE, "")
 
     def file(self):
         """The text of the file."""
@@ -87,25 +54,28 @@ class Rows:
         file = plain(os.path.basename(self.path))
         found = comment(f"The style “{title}”. `tools/style --rows` wrote this from {file}.", 0, "#")
         found += comment(f"Rights: {rights}", 0, "#") if rights else []
-        found += ["", *filled(f"base default-locale={self.language}", self.settings(), 2)]
-        for it in [*self.own_locales(), *self.macros(), *self.layouts()]:
+        language = [f"default-locale={self.language}"] if isinstance(self.locale, BuiltIn) else []
+        found += ["", *filled("base", language + self.settings(), 2)]
+        for it in [*self.own_locales(), *self.macros(), *self.layouts(), *self.driver()]:
             found += it.lines(2)
         return "\n".join(found) + "\n\n"
 
     # ---- texts and attributes
 
-    def quoted(self, node, text):
-        """A text in quotes. The notation has no escapes, but two sorts of quotes."""
-        if CONTROL.search(text):
-            self.left[BREAKS] += 1
-            text = CONTROL.sub(" ", text)
-        if '"' in text and "'" in text:
-            node.refuse(f"a text has both sorts of quotes: {text}")
-        return f"'{text}'" if '"' in text else f'"{text}"'
+    def plain(self, text: str) -> str:
+        """A text on one line."""
+        self.left[BREAKS] += CONTROL.search(text) is not None
+        return CONTROL.sub(" ", text)
 
-    def attribute(self, node, name, value):
-        is_bare = value and not re.search(r"""[\s()"'=]""", value) and not CONTROL.search(value)
-        return f"{name}={value if is_bare else self.quoted(node, value)}"
+    def quoted(self, text: str) -> str:
+        """A text in quotes."""
+        return in_quotes(self.plain(text))
+
+    def attribute(self, name: str, value: str) -> str:
+        """An attribute of a node."""
+        # (a control character may stand where a bare value ends)
+        found = self.plain(value)
+        return attribute(name, found) if found == value else f"{name}={in_quotes(found)}"
 
     def attributes(self, node, names):
         """These attributes of a node, where it has them."""
@@ -115,7 +85,7 @@ class Rows:
             if value is None or name in AFFIXES and not value:
                 continue
             value = str(int(value)) if name in NUMBERS else "italic" if value == "oblique" and name == "font-style" else value
-            found.append(self.attribute(node, name, value))
+            found.append(self.attribute(name, value))
         return found
 
     def words(self, node, name):
@@ -148,7 +118,7 @@ class Rows:
             if value not in library.terms():
                 return None
             value = self.term_names(value)[0]
-        form = Form("text", [self.attribute(node, target, value)])
+        form = Form("text", [self.attribute(target, value)])
         return self.dressed(node, form, target == "variable" and value != "year-suffix")
 
     def number(self, node, **_):
@@ -199,7 +169,7 @@ class Rows:
         return Form("choose", [], [self.branch(it, around) for it in node])
 
     def branch(self, node, around):
-        tests = [self.attribute(node, it, " ".join(self.words(node, it))) for it in TESTS if it in node.attrib]
+        tests = [self.attribute(it, " ".join(self.words(node, it))) for it in TESTS if it in node.attrib]
         return Form(node.name, tests, self.nodes(node, around=around))
 
     # ---- the style
@@ -213,9 +183,10 @@ class Rows:
         options = options_of(self.locales(), collections.Counter())
         return found + [f"{it}={options[it]}" for it in OPTIONS if it in options]
 
-    def locales(self):
-        """The style's own locales for the language."""
-        return [it for it in locales_in_order(self.root, [self.library], collections.Counter()) if it is not self.library]
+    def locales(self) -> list[Node]:
+        """The style's own locales for the language, and the locale of a file."""
+        ordered = locales_in_order(self.root, [self.locale], collections.Counter())
+        return [it for it in ordered if not isinstance(it, BuiltIn)]
 
     def own_locales(self):
         found = []
@@ -235,8 +206,8 @@ class Rows:
         one, many = node.findtext(f"{CS}single", node.text or ""), node.findtext(f"{CS}multiple")
         name = node.get("name")
         if ORDINAL.fullmatch(name):
-            return [Form(f"term {name}", self.attributes(node, ("match", "gender-form")), [self.quoted(node, one)])]
-        texts = [self.quoted(node, it) for it in (one, many) if it is not None]
+            return [Form(f"term {name}", self.attributes(node, ("match", "gender-form")), [self.quoted(one)])]
+        texts = [self.quoted(it) for it in (one, many) if it is not None]
         texts = texts[:1] if texts[0] == texts[-1] else texts
         names = [f'"{it}"' if " " in it else it for it in self.term_names(name)]
         return [Form(f"term {it}", self.attributes(node, ("form", "gender")), texts) for it in names]
@@ -249,8 +220,10 @@ class Rows:
         own = [name] if any(is_other) else []
         return own + [f"locator:{name}" for it in is_other if not it]
 
-    def macros(self):
-        return [Form("macro", [self.attribute(it, "name", it.get("name"))], self.nodes(it)) for it in self.root.findall(f"{CS}macro")]
+    def macros(self) -> list[Form]:
+        """The macros."""
+        macros = self.root.findall(f"{CS}macro")
+        return [Form("macro", [self.attribute("name", it.get("name"))], self.nodes(it)) for it in macros]
 
     def layouts(self):
         for name in ("citation", "bibliography"):
@@ -258,3 +231,20 @@ class Rows:
                 layout = node.find(f"{CS}layout")
                 attributes = self.attributes(node, INHERITED) + self.attributes(layout, FORMATTING)
                 yield Form(name, attributes, self.nodes(layout))
+
+    def driver(self) -> Iterator[Form]:
+        """What a driver does: the texts around a layout, how the bibliography looks, and the sort keys."""
+        for name in ("citation", "bibliography"):
+            for node in self.root.findall(f"{CS}{name}"):
+                looks = LOOKS if name == "bibliography" else ()
+                around = self.attributes(node.find(f"{CS}layout"), TEXTS) + self.attributes(node, looks)
+                keys = [self.key(it) for it in node.findall(f"{CS}sort/{CS}key")]
+                found = [Form(f"around {name}", around)] if around else []
+                yield from found + ([Form(f"sort {name}", [], keys)] if keys else [])
+
+    def key(self, node: Node) -> Form:
+        """A key of a sort: a variable, or a macro."""
+        variable = node.get("variable")
+        source = [] if variable is not None else [self.attribute("macro", node.get("macro"))]
+        way = ["sort=descending"] if node.get("sort") == "descending" else []
+        return Form("key" if variable is None else f"key {variable}", source + way)

@@ -1,20 +1,27 @@
 """A whole style and its locales, as a file of the program that uses them."""
 import collections, os, unicodedata
+from csl_source import library
 from csl_source.attributes import Attributes, some
-from csl_source.code import NO_BREAK, Call, Local, Vector, comment, function, lines_of, over, quoted, snake, unique
-from csl_source.document import CS, LANGUAGE, document
+from csl_source.code import Call, Local, Row, Vector, comment, function, lines_of, over, quoted, snake, unique
+from csl_source.document import CS, LANGUAGE, Node, document
 from csl_source.elements import RENDERED, Elements
-from csl_source.locales import HELPERS, Locales, locales_in_order, options_of
+from csl_source.locales import HELPERS, BuiltIn, Locales, locales_in_order, options_of
 
 # What a driver does, by the attributes of a citation and of a bibliography.
 BY_DRIVER = {
     "citation": ("after-collapse-delimiter", "cite-group-delimiter", "collapse", "disambiguate-add-givenname", "disambiguate-add-names",
                  "disambiguate-add-year-suffix", "givenname-disambiguation-rule", "near-note-distance", "year-suffix-delimiter"),
-    "bibliography": ("entry-spacing", "hanging-indent", "line-spacing", "second-field-align", "subsequent-author-substitute",
-                     "subsequent-author-substitute-rule"),
+    "bibliography": ("subsequent-author-substitute", "subsequent-author-substitute-rule"),
 }
-# What a layout leaves to a driver.
-AROUND = {"citation": ("before the cites", "between them", "after them"), "bibliography": ("before each line", "between them", "after each line")}
+# The texts around a layout, which a driver writes.
+TEXTS = ("prefix", "suffix", "delimiter")
+AROUND = {"citation": "before the cites of a citation, after them, and between them",
+          "bibliography": "before each line of the bibliography, after it, and between lines"}
+# How the bibliography looks, which a driver sets.
+LOOKS = {"hanging-indent": "Whether all lines of an entry but its first are indented.",
+         "second-field-align": "How the first field of each line is set apart: `flush`, `margin`, or not at all.",
+         "entry-spacing": "The empty lines between two entries of the bibliography.",
+         "line-spacing": "The distance of two lines of the bibliography, in lines."}
 # A function adds so many macros.
 MACROS = 30
 
@@ -59,13 +66,23 @@ def refuse_cycle(first, macros, done):
             rest += [(it.get("macro"), True) for it in macros[name].iter(f"{CS}text") if it.get("macro") is not None]
 
 
+def refuse_dependent(root: Node) -> None:
+    """Refuses a style that has no layouts of its own and names another in their place."""
+    for link in root.findall(f"{CS}info/{CS}link"):
+        if link.get("rel") == "independent-parent" and root.find(f"{CS}citation") is None:
+            parent = link.get("href", "").rstrip("/").split("/")[-1]
+            link.refuse(f"a dependent style, without layouts of its own: take its parent, `{parent}.csl`")
+
+
 class Style:
-    """Writes a style with the locales of these files, as a file, or as a module inside of one. `left` counts what the library leaves out."""
+    """Writes a style with the locales of these files, or of the library, as a file, or as a module inside of one. `left`
+    counts what the library leaves out."""
 
     def __init__(self, path, files, module=None):
         self.path, self.files, self.module, self.indent = path, files, module, 4 if module else 0
         self.left = collections.Counter()
         self.root = document(path, "style")
+        refuse_dependent(self.root)
         self.elements = Elements(self.left, dict.fromkeys(["style", "style_settings", *HELPERS], 2), self.indent)
         self.locales = Locales(self.elements)
 
@@ -74,30 +91,94 @@ class Style:
         given = Attributes(self.root, self.left)
         settings = self.settings(given)
         given.end(("info", "locale", "macro", "citation", "bibliography"))
+        constants = [it for name in ("citation", "bibliography") for it in self.constants(name)]
+        keys = [it for it in map(self.keys, ("citation", "bibliography")) if it]
         citation, bibliography = (self.layout(it) for it in ("citation", "bibliography"))
         lists = self.macro_lists([self.macro(name, node) for name, node in macros.items()])
         main = self.main(settings, [it[0] for it in lists], citation, bibliography, self.locale_calls())
-        blocks = [main, *([settings] if settings else []), *(it for _, it in lists), *self.elements.functions, *self.locales.written]
-        return self.joined([*blocks, *self.locales.helpers()])
+        blocks = [*constants, main, *keys, *([settings] if settings else []), *(it for _, it in lists)]
+        blocks += [*self.elements.functions, *self.locales.written, *self.locales.helpers()]
+        return self.joined(blocks, bool(keys))
 
-    def joined(self, blocks):
-        """The file of these blocks."""
-        inside = "\n\n".join("\n".join(it) for it in [self.head(), self.uses(), *blocks])
+    def joined(self, blocks: list[list[str]], sorts: bool) -> str:
+        """The file of these blocks. `sorts` is whether some of them sort."""
+        inside = "\n\n".join("\n".join(it) for it in [self.head(), self.uses(sorts), *blocks])
         if not self.module:
             return f"{inside}\n"
         name = plain(self.root.findtext(f"{CS}info/{CS}title")) or self.module
         return "\n".join([*comment(f"The style “{name}”.", 0), f"pub mod {self.module} {{", inside, "}\n"])
 
-    def head(self):
-        """What the file is, and the style's rights."""
+    def head(self) -> list[str]:
+        """What the file is, how it is made, and the style's rights."""
         title, rights = (plain(self.root.findtext(f"{CS}info/{CS}{it}")) for it in ("title", "rights"))
-        files = " and ".join(plain(os.path.basename(it)) for it in [self.path, *(path for path, _ in self.files)])
-        text = f"The style “{title}”, with its locale. `tools/style` wrote this from {files}: change the style there."
+        words = [self.path, *(it for path, _ in self.files for it in ("--locale", path))]
+        words = [plain(os.path.basename(it)) for it in words] + (["--module", self.module] if self.module else [])
+        command = f"`tools/style {' '.join(words)}`"
+        text = f"The style “{title}”, with its locale. {command} wrote this: change the style there."
         lines = comment(text, self.indent, "//!")
         return [*lines, f"{' ' * self.indent}//!", *comment(f"Rights: {rights}", self.indent, "//!")] if rights else lines
 
-    def uses(self):
-        return [f"{' ' * self.indent}use {it};" for it in ("csl::Error", "csl::style::*", "std::alloc::Global")]
+    def uses(self, sorts: bool) -> list[str]:
+        """What the file imports."""
+        names = ("csl::style::*", "csl::{Error, Sorting}") if sorts else ("csl::Error", "csl::style::*")
+        return [f"{' ' * self.indent}use {it};" for it in (*names, "std::alloc::Global")]
+
+    def constants(self, name: str) -> list[list[str]]:
+        """What a driver writes around a layout and sets for it, as constants."""
+        node = self.root.find(f"{CS}{name}")
+        layout = None if node is None else node.find(f"{CS}layout")
+        if layout is None:
+            return []
+        texts = ", ".join(quoted(layout.get(it, "")) for it in TEXTS)
+        found = [(f"What a driver writes {AROUND[name]}.", f"{name.upper()}: (&str, &str, &str) = ({texts})")]
+        if name == "bibliography":
+            given = Attributes(node, {})
+            align = given.one_of("second-field-align", {"flush": '"flush"', "margin": '"margin"'})
+            values = (given.flag("hanging-indent") or "false", align and f"Some({align})" or "None",
+                      given.number("entry-spacing") or "1", given.number("line-spacing") or "1")
+            kinds = ("bool", "Option<&str>", "u32", "u32")
+            found += [(says, f"{look.upper().replace('-', '_')}: {kind} = {value}")
+                      for (look, says), kind, value in zip(LOOKS.items(), kinds, values)]
+        space = " " * self.indent
+        return [[*comment(says, self.indent), f"{space}pub const {it};"] for says, it in found]
+
+    def keys(self, name: str) -> "list[str] | None":
+        """The function that returns the keys of a layout's sort, or `None` if it has none."""
+        found = self.root.findall(f"{CS}{name}/{CS}sort/{CS}key")
+        if not found:
+            return None
+        steps, rows = [], []
+        for key in found:
+            word = key.get("macro") if key.get("variable") is None else key.get("variable")
+            if word is None:
+                key.refuse("`key` needs a `variable` or a `macro`")
+            node, layout = Local(snake(word, "key")), Local(f"{snake(word, 'key').strip('_')}_key")
+            steps += [(node, self.key_node(key)), (layout, Call("Layout::new", Vector([node.into()])))]
+            sorting = "Sorting::Macro" if key.get("variable") is None else "Sorting::Variable"
+            rows.append(Row([layout, sorting, "true" if key.get("sort") == "descending" else "false"]))
+        keys = Local("keys")
+        says = f"The keys that the {name} is sorted by, each as a layout for `csl::sort_key`, with where its text " \
+            "comes from and whether it counts downwards."
+        kind, steps = "Vec<(Layout, Sorting, bool)>", [*steps, (keys, Vector(rows))]
+        lines = function(f"{name}_keys", kind, steps, Call("Ok", keys), self.indent)
+        lines[0] = f"{' ' * self.indent}pub {lines[0].lstrip()}"
+        space = " " * self.indent
+        errors = [f"{space}///", f"{space}/// # Errors", f"{space}/// [`Error::Memory`]: out of memory."]
+        return [*comment(says, self.indent), *errors, *lines]
+
+    def key_node(self, key: Node) -> Call:
+        """The node that a key renders: a call of a macro, or a variable."""
+        given = Attributes(key, {})
+        if given.rest.get("variable") is None:
+            return Call("Text::macro_call", "alloc", quoted(given.text("macro")), tail="?")
+        known = {name: sort for sort in library.VARIABLES for name in library.variants(sort)}
+        sort = given.one_of("variable", known, "variable")
+        variable = library.variants(sort)[key.get("variable")]
+        if sort == "NameVariable":
+            return Call("Names::new", "alloc", Vector([variable]))
+        if sort == "DateVariable":
+            return Call("Date::new", variable, "Vec::new(alloc)")
+        return Call("Text::variable" if sort == "StandardVariable" else "Number::new", f"{variable}.into()")
 
     def settings(self, given):
         """The function that returns the settings, or `None` if they are the defaults."""
@@ -139,6 +220,9 @@ class Style:
                 given = Attributes(node, self.left)
                 yield f"{name}_names", given.name_options()
                 given.leave_out(*BY_DRIVER[name])
+                if name == "bibliography":
+                    for look in LOOKS:
+                        given.text(look)
                 given.end(("sort", "layout"))
 
     def layout(self, name):
@@ -147,29 +231,30 @@ class Style:
         if node is None:
             return None
         for key in node.findall(f"{CS}sort"):
-            self.left["`sort`"] += 1
             self.sort(key)
         layouts = node.findall(f"{CS}layout")
         if len(layouts) != 1:
             node.refuse(f"`{name}` needs one `layout`")
         given = Attributes(layouts[0], self.left)
-        texts = zip(AROUND[name], map(given.text, ("prefix", "delimiter", "suffix")))
-        said = [f"`{quoted(it)[1:-1]}` {where}".replace(" ", NO_BREAK) for where, it in texts if it]
+        for it in TEXTS:
+            given.text(it)
         self.elements.begin(name, f"the layout of the {name}")
         steps, nodes = self.elements.listed(layouts[0])
         layout = Local("layout")
         steps = [*steps, (layout, over("Layout", [("formatting", given.formatting())], Call("Layout::new", nodes)))]
         given.end(RENDERED)
-        self.left["affixes and delimiters of a `layout`"] += len(said)
-        says = f"The layout of the {name}." + (f" A driver writes {', '.join(said)}." if said else "")
+        says = f"The layout of the {name}, without the texts around it."
         return self.elements.function(f"{name}_layout", says, "Layout", steps, Call("Ok", layout))
 
     def sort(self, node):
         Attributes(node, self.left).end(("key",))
         for key in node:
             given = Attributes(key, {})
-            for name in ("variable", "macro", "sort", "names-min", "names-use-first", "names-use-last"):
+            for name in ("macro", "variable"):
                 given.text(name)
+            given.one_of("sort", {"ascending": None, "descending": None})
+            for name in ("names-min", "names-use-first", "names-use-last"):
+                self.left[f"`{name}` of `key`"] += given.text(name) is not None
             given.end()
 
     def macro(self, name, node):
@@ -195,11 +280,17 @@ class Style:
             lists.append((name, [*text, f"{space}    Ok(())", f"{space}}}"]))
         return lists
 
-    def locale_calls(self):
+    def locale_calls(self) -> list[str]:
+        """The calls that make the locales, in their order."""
         ordered = locales_in_order(self.root, [it for _, it in self.files], self.left)
         options = options_of(ordered, self.left)
         files = [it for _, it in self.files]
-        return [self.locales.of(it, it not in files, options if place == 0 else {}) for place, it in enumerate(ordered)]
+        calls = []
+        for place, it in enumerate(ordered):
+            own = options if place == 0 else {}
+            is_built_in = isinstance(it, BuiltIn)
+            calls.append(f"csl::{it.call}(alloc)?" if is_built_in else self.locales.of(it, it not in files, own))
+        return calls
 
     def main(self, settings, macro_lists, citation, bibliography, locales):
         """The function that returns the style."""

@@ -5,8 +5,8 @@ use crate::fault::Fault;
 use crate::form::{Form, Forms};
 use crate::work::Work;
 use csl::literature::{
-    ChunkKind, ChunkedString, Date, FormatString, MaybeTyped, Numeric, NumericValue, PageRanges,
-    PageRangesPart, Person, StringChunk,
+    ChunkKind, ChunkedString, Date, FormatString, MaybeTyped, Numeric, NumericError, NumericValue,
+    PageRanges, PageRangesPart, Person, StringChunk,
 };
 use csl::style::Variable;
 use std::alloc::Global;
@@ -39,8 +39,26 @@ fn words(forms: &Forms<'_>) -> Result<String, Fault> {
     Ok(words)
 }
 
+/// What a text parses as, or the text in its place.
+fn either<T: Drop>(
+    alloc: Global,
+    text: &str,
+    parsed: Result<T, NumericError>,
+) -> Result<MaybeTyped<T>, Fault> {
+    match parsed {
+        Ok(value) => Ok(MaybeTyped::Typed(value)),
+        Err(NumericError::NotNumeric) => Ok(MaybeTyped::String(String::from_str(alloc, text)?)),
+        Err(NumericError::Memory) => Err(Fault::Memory),
+    }
+}
+
+/// A number, as `(volume 20)`; a text in its place, as `(volume "20")`; or a text that may be a
+/// number, as `(volume either=20)`.
 fn number(forms: &Forms<'_>) -> Result<MaybeTyped<Numeric>, Fault> {
-    forms.ensure_attributes(&[])?;
+    forms.ensure_attributes(&["either"])?;
+    if let Some(text) = forms.value("either") {
+        return either(forms.alloc, text, Numeric::parse(forms.alloc, text));
+    }
     if let Ok(text) = only_text(forms) {
         return Ok(MaybeTyped::String(String::from_str(forms.alloc, text)?));
     }
@@ -65,10 +83,14 @@ fn open_range(alloc: Global, text: &str) -> Result<PageRangesPart, Fault> {
     Ok(PageRangesPart::Range(Numeric::parse(alloc, text)?, end))
 }
 
-/// Pages, as `(page 321-8, 5)`; a text in their place, as `(page "i-iv")`; a range in full, as
-/// `(page full=42-5)`; or a range from a page on, as `(page from=4000)`.
+/// Pages, as `(page 321-8, 5)`; a text in their place, as `(page "i-iv")`; a text that may be pages,
+/// as `(page either="321-8")`; a range in full, as `(page full=42-5)`; or a range from a page on, as
+/// `(page from=4000)`.
 fn pages(forms: &Forms<'_>) -> Result<MaybeTyped<PageRanges>, Fault> {
-    forms.ensure_attributes(&["full from"])?;
+    forms.ensure_attributes(&["full from either"])?;
+    if let Some(text) = forms.value("either") {
+        return either(forms.alloc, text, PageRanges::parse(forms.alloc, text));
+    }
     if let Ok(text) = only_text(forms) {
         return Ok(MaybeTyped::String(String::from_str(forms.alloc, text)?));
     }

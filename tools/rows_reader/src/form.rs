@@ -1,5 +1,5 @@
-//! The forms of a line: words, texts in double or single quotes, attributes `name=value`, and lists
-//! in parentheses.
+//! The forms of a line: words, texts in quotes, attributes `name=value`, and lists in parentheses.
+//! Quotes are double or single ones, or as in `#"a text"#`: the same number of `#` on both sides.
 
 use crate::fault::Fault;
 use crate::names::Named;
@@ -30,29 +30,39 @@ fn is_end(c: char) -> bool {
     matches!(c, ' ' | '(' | ')' | '"' | '=')
 }
 
-/// The quote that a text begins with, if it is in quotes. A text in single quotes may hold double
-/// ones.
-fn opening_quote(text: &str) -> Option<char> {
-    text.chars().next().filter(|c| matches!(c, '"' | '\''))
+/// The mark that a text in quotes begins with, and the text after the mark.
+fn split_mark(text: &str) -> Option<(&str, &str)> {
+    if let Some(rest) = text.strip_prefix('\'') {
+        return Some(("'", rest));
+    }
+    let rest = text.trim_start_matches('#').strip_prefix('"')?;
+    Some(text.split_at(text.len() - rest.len()))
 }
 
 /// The word that a text begins with, and the text after it.
 fn split_word(text: &str) -> (&str, &str) {
     let after = text.trim_start_matches(|c: char| !is_end(c));
-    (text.strip_suffix(after).unwrap_or(""), after)
+    text.split_at(text.len() - after.len())
 }
 
-/// The text in quotes that a text begins with, and the text after them.
-fn split_quoted(text: &str, quote: char) -> Result<(&str, &str), Fault> {
-    text.strip_prefix(quote)
-        .and_then(|rest| rest.split_once(quote))
+/// The text in quotes that ends where a mark is closed, and the text after it.
+fn split_quoted<'t>(alloc: Global, mark: &str, text: &'t str) -> Result<(&'t str, &'t str), Fault> {
+    let mut end = String::new(alloc);
+    match mark.strip_suffix('"') {
+        Some(hashes) => {
+            end.push('"')?;
+            end.push_str(hashes)?;
+        }
+        None => end.push_str(mark)?,
+    }
+    text.split_once(end.as_str())
         .ok_or(Fault::Wrong("a quote is not closed"))
 }
 
 /// The value that a text begins with, and the text after it.
-fn split_value(text: &str) -> Result<(&str, &str), Fault> {
-    match opening_quote(text) {
-        Some(quote) => split_quoted(text, quote),
+fn split_value<'t>(alloc: Global, text: &'t str) -> Result<(&'t str, &'t str), Fault> {
+    match split_mark(text) {
+        Some((mark, rest)) => split_quoted(alloc, mark, rest),
         None => Ok(split_word(text)),
     }
 }
@@ -74,8 +84,8 @@ fn split_form<'t>(alloc: Global, text: &'t str) -> Result<(Form<'t>, &'t str), F
     if let Some(list) = text.strip_prefix('(') {
         return split_list(alloc, list);
     }
-    if let Some(quote) = opening_quote(text) {
-        let (text, after) = split_quoted(text, quote)?;
+    if let Some((mark, rest)) = split_mark(text) {
+        let (text, after) = split_quoted(alloc, mark, rest)?;
         return Ok((Form::Text(text), after));
     }
     let (name, after) = split_word(text);
@@ -84,7 +94,7 @@ fn split_form<'t>(alloc: Global, text: &'t str) -> Result<(Form<'t>, &'t str), F
     }
     match after.strip_prefix('=') {
         Some(rest) => {
-            let (value, after) = split_value(rest)?;
+            let (value, after) = split_value(alloc, rest)?;
             Ok((Form::Attribute(name, value), after))
         }
         None => Ok((Form::Word(name), after)),

@@ -1,14 +1,17 @@
 //! The program of `tools/rows`: it reads rows from standard input, each of which has nodes, an entry,
 //! a cite and what is wanted of them. It prints each row that is not as wanted, and how many are.
-//! With the argument `try`, a row that wants nothing prints what came. Nothing proves this program.
+//! With the argument `try`, a row that wants nothing prints what came. With the argument `items` it is
+//! the program of `tools/try`, and reads requests. Nothing proves this program.
 #![tactic(auto)]
 
 mod answers;
 mod choices;
 mod cite;
+mod driver;
 mod entry;
 mod fault;
 mod form;
+mod items;
 mod name_nodes;
 mod names;
 mod nodes;
@@ -19,30 +22,42 @@ mod tree_words;
 mod work;
 
 use fault::Fault;
-use rows::Rows;
+use items::Items;
+use rows::{Rows, printed};
 use std::alloc::Global;
 use std::env;
 use std::process::ExitCode;
 use std::rt::Env;
 
-/// Whether the argument is `try`.
-fn is_trial(rt: &(impl Env + AllocGlobal)) -> Result<bool, Fault> {
+/// What the program is to do.
+enum Task {
+    /// Rows, printed if they are not as wanted.
+    Compare,
+    /// Rows, printed too if they want nothing.
+    Try,
+    /// The requests of `tools/try`.
+    Items,
+}
+
+/// The task that the argument names.
+fn task(rt: &(impl Env + AllocGlobal)) -> Result<Task, Fault> {
     let Ok(mut words) = env::args(rt) else {
         return Err(Fault::Memory);
     };
     let _program = words.next();
     let words: Vec<String> = words.collect(rt.alloc())?;
     match words.as_slice() {
-        [] => Ok(false),
-        [word] if word.as_str() == "try" => Ok(true),
-        _ => Err(Fault::Wrong("the argument is try, or there is none")),
+        [] => Ok(Task::Compare),
+        [word] if word.as_str() == "try" => Ok(Task::Try),
+        [word] if word.as_str() == "items" => Ok(Task::Items),
+        _ => Err(Fault::Wrong("the argument is try or items, or there is none")),
     }
 }
 
-/// Reads all rows.
-fn run(rt: &(impl Env + Input + Print + AllocGlobal)) -> Result<Rows, Fault> {
+/// Reads all rows. Prints how many are as wanted, and returns whether all are.
+fn compare(rt: &(impl Input + Print + AllocGlobal), is_trial: bool) -> Result<bool, Fault> {
     let alloc: Global = rt.alloc();
-    let mut rows = Rows::new(alloc, is_trial(rt)?);
+    let mut rows = Rows::new(alloc, is_trial);
     for line in rt.lines(alloc) {
         match line {
             Ok(line) => rows.read(rt, line.as_str())?,
@@ -50,18 +65,36 @@ fn run(rt: &(impl Env + Input + Print + AllocGlobal)) -> Result<Rows, Fault> {
         }
     }
     rows.end(rt)?;
-    Ok(rows)
+    let (count, as_wanted) = (rows.rows, rows.as_wanted);
+    printed(rt.println(format_args!("{count} rows, {as_wanted} as wanted")))?;
+    Ok(count == as_wanted)
+}
+
+/// Answers all requests.
+fn answer(rt: &(impl Input + Print + AllocGlobal)) -> Result<bool, Fault> {
+    let alloc: Global = rt.alloc();
+    let mut items = Items::new(alloc);
+    for line in rt.lines(alloc) {
+        match line {
+            Ok(line) => items.answer(rt, line.as_str())?,
+            Err(_) => return Err(Fault::Wrong("a line is no text")),
+        }
+    }
+    Ok(true)
+}
+
+fn run(rt: &(impl Env + Input + Print + AllocGlobal)) -> Result<bool, Fault> {
+    match task(rt)? {
+        Task::Compare => compare(rt, false),
+        Task::Try => compare(rt, true),
+        Task::Items => answer(rt),
+    }
 }
 
 fn main(rt: HostRuntime) -> ExitCode {
     let (status, reason) = match run(&rt) {
-        Ok(rows) => {
-            let (count, as_wanted) = (rows.rows, rows.as_wanted);
-            match rt.println(format_args!("{count} rows, {as_wanted} as wanted")) {
-                Ok(_) if count == as_wanted => return ExitCode::SUCCESS,
-                _ => return ExitCode::FAILURE,
-            }
-        }
+        Ok(true) => return ExitCode::SUCCESS,
+        Ok(false) => return ExitCode::FAILURE,
         Err(Fault::Memory) => (3, "out of memory"),
         Err(Fault::Wrong(reason) | Fault::Word(reason, _)) => (2, reason),
     };

@@ -250,7 +250,7 @@ impl Rows {
 }
 
 /// The result of printing.
-fn printed<T: Drop, E: Drop>(outcome: Result<T, E>) -> Result<(), Fault> {
+pub fn printed<T: Drop, E: Drop>(outcome: Result<T, E>) -> Result<(), Fault> {
     match outcome {
         Ok(_) => Ok(()),
         Err(_) => Err(Fault::Memory),

@@ -1,7 +1,9 @@
 //! Styles: settings, macros, the terms, ordinals and dates of the locale, and layouts. A `(locale ..)`
 //! is a further locale, after that one. A row's `layout` line is none of the style's own layouts,
-//! which are `(citation ..)` and `(bibliography ..)`.
+//! which are `(citation ..)` and `(bibliography ..)`. What a driver does, `(around ..)` and
+//! `(sort ..)`, changes no row.
 
+use crate::driver::ensure_driver;
 use crate::fault::Fault;
 use crate::form::{Form, Forms};
 use crate::name_nodes::{NAME_OPTIONS, name_options};
@@ -190,7 +192,8 @@ fn ensure_parts(forms: &Forms<'_>) -> Result<(), Fault> {
     let own = "page-range-format demote-non-dropping-particle initialize-with-hyphen \
         default-locale name-form name-delimiter";
     forms.ensure_attributes(&[own, LOCALE, NAME_OPTIONS])?;
-    forms.ensure_lists("macro term date locale citation bibliography")
+    forms.ensure_lists("macro term date locale citation bibliography around sort")?;
+    ensure_driver(forms)
 }
 
 /// The style of these forms.

@@ -8,9 +8,12 @@ use csl::entry::{IbidState, LocatorPayload, SpecificLocator, SpeculativeCiteProp
 use csl::literature::{
     Date, Entry, EntryType, FormatString, MaybeTyped, Numeric, Person, Publisher,
 };
-use csl::style::{Locator, Style};
-use csl::{BufWriteFormat, CitationNumber, CiteProperties, DisambiguateState, ElemChildren, Error};
-use others::{notes, numeric};
+use csl::style::{Layout, Locator, Style};
+use csl::{
+    BufWriteFormat, CitationNumber, CiteProperties, DisambiguateState, ElemChildren, Error, Scope,
+    Sorting,
+};
+use others::{french, notes, numeric};
 use std::alloc::Global;
 use std::io;
 
@@ -132,6 +135,60 @@ fn show_line(
     }
 }
 
+/// Prints both works in one citation, with the texts that the style has around the cites.
+fn show_citation(
+    rt: &(impl Print + AllocGlobal),
+    name: &str,
+    style: &Style,
+    (prefix, suffix, delimiter): (&str, &str, &str),
+    (machine, mixture): (&Entry, &Entry),
+) -> Result<(), CiteError> {
+    let (alloc, second) = (rt.alloc(), Cite { number: 1, ..FIRST });
+    let first = csl::cite(alloc, style, machine, &properties(FIRST)).map_err(Error::from)?;
+    let second = csl::cite(alloc, style, mixture, &properties(second)).map_err(Error::from)?;
+    let (first, second) = (first.content, second.content);
+    println!(rt; "{name}: {prefix}{first}{delimiter}{second}{suffix}")?;
+    Ok(())
+}
+
+/// Prints the keys that an entry is sorted by.
+fn show_keys(
+    rt: &(impl Print + AllocGlobal),
+    name: &str,
+    style: &Style,
+    keys: &[(Layout, Sorting, bool)],
+    entry: &Entry,
+) -> Result<(), CiteError> {
+    let (alloc, scope, first) = (rt.alloc(), Scope::Bibliography, properties(FIRST));
+    for (layout, sorting, is_descending) in keys {
+        let key = csl::sort_key(alloc, style, entry, &first, layout, scope, *sorting);
+        let key = key.map_err(Error::from)?;
+        let way = if *is_descending {
+            "downwards"
+        } else {
+            "upwards"
+        };
+        println!(rt; "{name}: {key}, {way}")?;
+    }
+    Ok(())
+}
+
+/// Prints how a list looks.
+fn show_looks(
+    rt: &impl Print,
+    name: &str,
+    is_hanging: bool,
+    align: Option<&str>,
+    spacing: u32,
+    lines: u32,
+) -> Result<(), CiteError> {
+    let (hangs, align) = (
+        if is_hanging { "hanging" } else { "even" },
+        align.unwrap_or("none"),
+    );
+    Ok(println!(rt; "{name}: {hangs}, {align}, {spacing}, {lines}")?)
+}
+
 /// Prints cites and lines by author and date.
 fn show_author_date(
     rt: &(impl Print + AllocGlobal),
@@ -146,7 +203,21 @@ fn show_author_date(
     show_cite(rt, "author-date, a page", style, machine, page)?;
     show_cite(rt, "author-date, editors", style, mixture, FIRST)?;
     show_line(rt, "author-date, line 1", style, machine, 0)?;
-    show_line(rt, "author-date, line 2", style, mixture, 1)
+    show_line(rt, "author-date, line 2", style, mixture, 1)?;
+    let (around, works) = (author_date::CITATION, (machine, mixture));
+    show_citation(rt, "author-date, citation", style, around, works)?;
+    let keys = author_date::bibliography_keys(rt.alloc())?;
+    show_keys(rt, "author-date, key", style, &keys, machine)?;
+    let (prefix, suffix, delimiter) = author_date::BIBLIOGRAPHY;
+    println!(rt; "author-date, around a line: {prefix}..{suffix}{delimiter}")?;
+    show_looks(
+        rt,
+        "author-date, list",
+        author_date::HANGING_INDENT,
+        author_date::SECOND_FIELD_ALIGN,
+        author_date::ENTRY_SPACING,
+        author_date::LINE_SPACING,
+    )
 }
 
 /// Prints notes.
@@ -183,7 +254,14 @@ fn show_notes(
     show_cite(rt, "note, later with a line", style, machine, line)?;
     show_cite(rt, "note, editors", style, mixture, FIRST)?;
     show_cite(rt, "note, later", style, mixture, later)?;
-    show_line(rt, "notes, line", style, mixture, 0)
+    show_line(rt, "notes, line", style, mixture, 0)?;
+    show_citation(
+        rt,
+        "notes, citation",
+        style,
+        notes::CITATION,
+        (machine, mixture),
+    )
 }
 
 /// Prints numbers and the lines that they lead to.
@@ -197,7 +275,24 @@ fn show_numeric(
     show_cite(rt, "number 1", style, machine, FIRST)?;
     show_cite(rt, "number 2", style, mixture, second)?;
     show_line(rt, "number 1, line", style, machine, 0)?;
-    show_line(rt, "number 2, line", style, mixture, 1)
+    show_line(rt, "number 2, line", style, mixture, 1)?;
+    show_citation(
+        rt,
+        "numbers, citation",
+        style,
+        numeric::CITATION,
+        (machine, mixture),
+    )?;
+    let keys = numeric::citation_keys(rt.alloc())?;
+    show_keys(rt, "numbers, key", style, &keys, machine)?;
+    show_looks(
+        rt,
+        "numbers, list",
+        numeric::HANGING_INDENT,
+        numeric::SECOND_FIELD_ALIGN,
+        numeric::ENTRY_SPACING,
+        numeric::LINE_SPACING,
+    )
 }
 
 fn main(rt: HostRuntime) -> Result<(), CiteError> {
@@ -206,5 +301,12 @@ fn main(rt: HostRuntime) -> Result<(), CiteError> {
     let mixture = mixture(alloc)?;
     show_author_date(&rt, &author_date::style(alloc)?, &machine, &mixture)?;
     show_notes(&rt, &notes::style(alloc)?, &machine, &mixture)?;
-    show_numeric(&rt, &numeric::style(alloc)?, &machine, &mixture)
+    show_numeric(&rt, &numeric::style(alloc)?, &machine, &mixture)?;
+    show_line(
+        &rt,
+        "the library's French",
+        &french::style(alloc)?,
+        &machine,
+        0,
+    )
 }

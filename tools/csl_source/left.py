@@ -1,0 +1,51 @@
+"""What the library leaves out of a style or of works, in words of what a reader will see."""
+import collections
+import re
+
+# What is seen, and the names of what is left out. What matters first comes first.
+SEEN = (
+    ("the words are of another language or country than the style's",
+     "`default-locale` of another language than the locale"),
+    ("page ranges are in full, as 454–477 for 454–77", "the page format .*"),
+    ("titles and labels keep their case", "`text-case`"),
+    ("words are missing that the library has no term for", "the term .*"),
+    ("dates are missing that are in words", "dates in words"),
+    ("ranges of dates are cut to their first date", "ranges of dates"),
+    ("markup inside of titles is dropped", "markup in texts"),
+    ("cites that are alike stay alike, as 2014 for 2014a",
+     "`disambiguate-.*`|`givenname-disambiguation-rule`|`year-suffix-delimiter`"),
+    ("cites in a row are not shortened, as 1, 2, 3 for 1–3",
+     "`collapse`|`cite-group-delimiter`|`after-collapse-delimiter`"),
+    ("an author of several works is written out each time", "`subsequent-author-substitute(-rule)?`"),
+    ("no note counts as near another", "`near-note-distance`"),
+    ("names are sorted as they print", "`names-(min|use-first|use-last)` of `key`"),
+    ("texts before and after names are missing", "affixes of `name`"),
+    ("texts before and after a part are formatted like the part", "affixes outside of the formatting"),
+    ("slanted text is italic", "`font-style` oblique .*"),
+    ("names are in the order of the style", "`static-ordering`"),
+    ("line breaks and other control characters are spaces", "line breaks .*"),
+    ("ranges of dates have no delimiter of their own", "`range-delimiter`"),
+    ("words of other languages are not used", "`locale` of another language"),
+    ("ordinals have one form", "`form`"),
+    ("terms are missing that no style can name", "terms of locales .*"),
+)
+# The most names on a line.
+MOST_NAMES = 5
+
+
+def places(count: int) -> str:
+    """A number of places."""
+    return f"{count} {'place' if count == 1 else 'places'}"
+
+
+def lines(left: collections.Counter) -> list[str]:
+    """A line for each thing that is seen, with how often it is there and its names in CSL. What matters first
+    comes first."""
+    found, rest = [], {name: count for name, count in left.items() if count}
+    for seen, names in (*SEEN, ("left out", ".*")):
+        own = {name: count for name, count in rest.items() if re.fullmatch(names, name, re.DOTALL)}
+        if own:
+            rest = {name: count for name, count in rest.items() if name not in own}
+            names = [*own][:MOST_NAMES] + [f"and {len(own) - MOST_NAMES} more"] * (len(own) > MOST_NAMES)
+            found.append(f"{seen}: {places(sum(own.values()))} ({', '.join(names)})")
+    return found

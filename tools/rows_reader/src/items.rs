@@ -1,0 +1,280 @@
+//! The requests of `tools/try`, each a line. Its answers are lines of a word and a text, and after
+//! them comes a line `.`. In a text U+2028 stands for a line feed.
+//!
+//! `style FORMS` sets the style, and is answered by what it asks of a driver and what it lacks.
+//! `keys NUMBER FORMS` is answered by the sort keys of the entry of these forms, `item NUMBER FORMS`
+//! by its cite and its line of the bibliography, whose first field is apart if the style aligns it.
+//! What is wrong with a request is a line `fault`.
+
+use crate::answers::Question;
+use crate::driver::{Key, around, keys};
+use crate::entry::entry;
+use crate::fault::Fault;
+use crate::form::{Form, Forms};
+use crate::rows::printed;
+use crate::scene::Scene;
+use crate::style::style;
+use crate::work::Work;
+use csl::style::{Layout, RenderingElement, Text};
+use csl::{
+    BufWriteFormat, CitationNumber, CiteProperties, DisambiguateState, ElemChildren,
+    InstanceContext, LeftState, Scope, Style, bibliography_entry, cite, is_web_address, sort_key,
+};
+use std::alloc::Global;
+
+/// The most nodes that one rendering of a layout may go through, and the most in all branches.
+const NODES: u64 = 2_000;
+
+const ALL_NODES: u64 = 20_000;
+
+/// How deep the nodes of a layout may be.
+const DEPTH: usize = 64;
+
+/// What the requests so far have set.
+#[derive(Drop)]
+pub struct Items {
+    alloc: Global,
+    style: Option<Style>,
+    /// The keys that the list is sorted by, and whose they are.
+    keys: Vec<Key>,
+    scope: Scope,
+    /// Whether the first field of a line is apart.
+    is_aligned: bool,
+}
+
+/// Prints an answer.
+fn reply(rt: &impl Print, alloc: Global, word: &str, text: &str) -> Result<(), Fault> {
+    let mut line = String::from_str(alloc, word)?;
+    for (place, part) in text.split('\n').enumerate() {
+        line.push(if place == 0 { ' ' } else { '\u{2028}' })?;
+        line.push_str(part)?;
+    }
+    printed(rt.println(line.as_str()))
+}
+
+/// Prints a fault as an answer. Out of memory is none.
+fn reply_fault(rt: &impl Print, alloc: Global, fault: Fault) -> Result<(), Fault> {
+    match fault {
+        Fault::Memory => Err(Fault::Memory),
+        Fault::Wrong(reason) => reply(rt, alloc, "fault", reason),
+        Fault::Word(reason, word) => {
+            let mut text = String::from_str(alloc, reason)?;
+            text.push_str(": ")?;
+            text.push_str(word.as_str())?;
+            reply(rt, alloc, "fault", text.as_str())
+        }
+    }
+}
+
+/// Prints a content as plain text and as HTML. Only web addresses are links.
+fn reply_content(
+    rt: &impl Print,
+    alloc: Global,
+    word: &str,
+    mut content: ElemChildren,
+) -> Result<(), Fault> {
+    content.keep_links(|address: &str| is_web_address(alloc, address).unwrap_or(false));
+    let plain = content.to_text(alloc, BufWriteFormat::Plain)?;
+    reply(rt, alloc, word, plain.as_str())?;
+    let html = content.to_text(alloc, BufWriteFormat::Html)?;
+    let mut name = String::from_str(alloc, word)?;
+    name.push_str("-html")?;
+    reply(rt, alloc, name.as_str(), html.as_str())
+}
+
+/// The properties of a first cite with this number.
+fn numbered(number: u32) -> CiteProperties<'static> {
+    let mut props = CiteProperties::first(DisambiguateState::None);
+    if let Some(number) = CitationNumber::new(number) {
+        props.speculative.citation_number = number;
+    }
+    props
+}
+
+/// A text in the formatting of a layout.
+fn text_of(
+    alloc: Global,
+    style: &Style,
+    layout: &Layout,
+    text: &str,
+    format: BufWriteFormat,
+) -> Result<String, Fault> {
+    let nodes = vec![in alloc; Text::value(alloc, text)?.into()]?;
+    let layout = Layout {
+        formatting: layout.formatting,
+        ..Layout::new(nodes)
+    };
+    let (work, props) = (Work::new(alloc), numbered(0));
+    let (start, element) = (LeftState::new(alloc), RenderingElement::Layout(layout));
+    let scene = Scene {
+        alloc,
+        style,
+        cite: InstanceContext {
+            entry: &work,
+            cite_props: &props,
+            sorting: None,
+            kind: None,
+        },
+        scope: Scope::Citation,
+        start: &start,
+        before: "",
+        element: &element,
+    };
+    let mut words = String::new(alloc);
+    scene.add_content(&mut words, Question::Text(format))?;
+    Ok(words)
+}
+
+/// Prints what a driver writes and sets around a layout.
+fn reply_around(
+    rt: &impl Print,
+    style: &Style,
+    (name, layout): (&str, &Layout),
+    forms: &Forms<'_>,
+) -> Result<(), Fault> {
+    let alloc = forms.alloc;
+    for form in &forms.items {
+        if let Form::Attribute(own, value) = form {
+            let mut word = String::from_str(alloc, name)?;
+            word.push('-')?;
+            word.push_str(*own)?;
+            if !matches!(*own, "prefix" | "suffix" | "delimiter") {
+                reply(rt, alloc, word.as_str(), *value)?;
+                continue;
+            }
+            let plain = text_of(alloc, style, layout, *value, BufWriteFormat::Plain)?;
+            reply(rt, alloc, word.as_str(), plain.as_str())?;
+            word.push_str("-html")?;
+            let html = text_of(alloc, style, layout, *value, BufWriteFormat::Html)?;
+            reply(rt, alloc, word.as_str(), html.as_str())?;
+        }
+    }
+    Ok(())
+}
+
+/// Prints the term that a layout names and no locale has, if there is one.
+fn reply_missing_term(
+    rt: &impl Print,
+    alloc: Global,
+    style: &Style,
+    layout: &Layout,
+) -> Result<(), Fault> {
+    if let Some((term, _)) = style.missing_term(layout) {
+        if let Some(name) = term.name() {
+            return reply(rt, alloc, "missing-term", name);
+        }
+    }
+    Ok(())
+}
+
+impl Items {
+    /// No style.
+    pub fn new(alloc: Global) -> Items {
+        Items {
+            alloc,
+            style: None,
+            keys: Vec::new(alloc),
+            scope: Scope::Bibliography,
+            is_aligned: false,
+        }
+    }
+
+    /// Answers a request.
+    pub fn answer(&mut self, rt: &impl Print, line: &str) -> Result<(), Fault> {
+        let (word, rest) = line.split_once(' ').unwrap_or((line, ""));
+        let outcome = match word {
+            "style" => self.set_style(rt, rest),
+            "keys" => self.reply_keys(rt, rest),
+            "item" => self.reply_item(rt, rest),
+            _ => Err(Fault::Wrong("no such request")),
+        };
+        if let Err(fault) = outcome {
+            reply_fault(rt, self.alloc, fault)?;
+        }
+        printed(rt.println("."))
+    }
+
+    /// Sets the style. Prints what it asks of a driver, and what it lacks.
+    fn set_style(&mut self, rt: &impl Print, text: &str) -> Result<(), Fault> {
+        let alloc = self.alloc;
+        let forms = Forms::read(alloc, text)?;
+        let style = style(&forms)?;
+        let citation = Some(("citation", Scope::Citation, style.citation()));
+        let bibliography = style.bibliography();
+        let bibliography = bibliography.map(|it| ("bibliography", Scope::Bibliography, it));
+        for (name, scope, layout) in [citation, bibliography].into_iter().flatten() {
+            if !style.rendered_within(layout, NODES, ALL_NODES, DEPTH) {
+                return Err(Fault::of_word(alloc, "the layout is too large", name));
+            }
+            if let Some(inside) = around(&forms, scope) {
+                self.is_aligned = inside.value("second-field-align").is_some();
+                reply_around(rt, &style, (name, layout), inside)?;
+            }
+            reply_missing_term(rt, alloc, &style, layout)?;
+            let keys = keys(&forms, scope)?;
+            // (those of the bibliography come last, and sort the list)
+            if !keys.is_empty() {
+                self.keys = keys;
+                self.scope = scope;
+            }
+        }
+        if let Some(name) = style.missing_macro() {
+            reply(rt, alloc, "missing-macro", name)?;
+        }
+        for key in &self.keys {
+            let way = if key.is_descending {
+                "descending"
+            } else {
+                "ascending"
+            };
+            reply(rt, alloc, "sort", way)?;
+        }
+        self.style = Some(style);
+        Ok(())
+    }
+
+    /// The style, and the number and the entry of a request.
+    fn entry(&self, text: &str) -> Result<(&Style, CiteProperties<'static>, Work), Fault> {
+        let Some(style) = &self.style else {
+            return Err(Fault::Wrong("there is no style"));
+        };
+        let (number, rest) = text.split_once(' ').unwrap_or((text, ""));
+        let Ok(number) = number.parse::<u32>() else {
+            return Err(Fault::of_word(self.alloc, "not a number", number));
+        };
+        let work = entry(&Forms::read(self.alloc, rest)?)?;
+        Ok((style, numbered(number), work))
+    }
+
+    /// Prints the sort keys of an entry.
+    fn reply_keys(&self, rt: &impl Print, text: &str) -> Result<(), Fault> {
+        let (style, props, work) = self.entry(text)?;
+        for it in &self.keys {
+            let (scope, sorting) = (self.scope, it.sorting);
+            let key = sort_key(self.alloc, style, &work, &props, &it.layout, scope, sorting)?;
+            reply(rt, self.alloc, "key", key.as_str())?;
+        }
+        Ok(())
+    }
+
+    /// Prints the cite of an entry, and its line of the bibliography, if the style has one.
+    fn reply_item(&self, rt: &impl Print, text: &str) -> Result<(), Fault> {
+        let (style, props, work) = self.entry(text)?;
+        let cited = cite(self.alloc, style, &work, &props)?;
+        reply_content(rt, self.alloc, "cite", cited.content)?;
+        match bibliography_entry(self.alloc, style, &work, &props)? {
+            Some(listed) => self.reply_line(rt, listed.content),
+            None => Ok(()),
+        }
+    }
+
+    /// Prints a line of the bibliography.
+    fn reply_line(&self, rt: &impl Print, mut line: ElemChildren) -> Result<(), Fault> {
+        if self.is_aligned && line.0.len() > 1 {
+            let mut first = ElemChildren::new(self.alloc);
+            first.0.push(line.0.remove(0))?;
+            reply_content(rt, self.alloc, "first", first)?;
+        }
+        reply_content(rt, self.alloc, "line", line)
+    }
+}
