@@ -1,0 +1,68 @@
+"""A reference list as a whole web page, as `page.rt` of csl_uses has it: texts are escaped, and only web
+addresses are links."""
+import dataclasses
+import html
+import re
+from typing import Mapping
+
+# A line in columns is a flex box, which ignores floats. Long addresses wrap. An author, a title and an
+# address that have an element are each isolated, so a character in one of them that turns the direction of
+# writing turns nothing else.
+PAGE = """<!doctype html>
+<html lang="{language}">
+<head>
+<meta charset="utf-8">
+<title>{title}</title>
+<style>
+body {{ max-width: 45em; margin: 2em auto; padding: 0 1em; line-height: 1.4; }}
+.entry {{ margin: {spacing}em 0; line-height: {lines}; overflow-wrap: anywhere; }}
+.entry.hanging {{ padding-left: 2em; text-indent: -2em; }}
+.entry.columns {{ display: flex; gap: 1em; }}
+.entry > div {{ min-width: 0; }}
+b, span, a {{ unicode-bidi: isolate; }}
+</style>
+</head>
+<body>
+<h1>{title}</h1>
+{body}</body>
+</html>
+"""
+
+
+@dataclasses.dataclass
+class Listed:
+    """A work as HTML: its `id`, its cite, and its line of the bibliography in one or two columns."""
+    id: str
+    cite: str
+    line: list[str]
+
+
+def entry(line: list[str], is_hanging: bool) -> str:
+    """A line of the bibliography."""
+    # (the library's own columns are floats)
+    is_in_columns = len(line) > 1 or "float: left" in line[0]
+    sort = " columns" if is_in_columns else " hanging" if is_hanging else ""
+    inside = line[0] if len(line) == 1 else "".join(f"<div>{it}</div>" for it in line)
+    return f'<div class="entry{sort}">{inside}</div>\n'
+
+
+def number(text: str, default: float) -> float:
+    """A number of the style, if it is no larger than a page can show."""
+    return min(int(text), 10) if re.fullmatch(r"\d+", text) else default
+
+
+def page(title: str, language: str, looks: Mapping[str, str], works: list[Listed], together: str) -> str:
+    """The page of these works. `looks` has what the style says of its bibliography, and `together` a citation
+    of several works."""
+    body = "<h2>Cites</h2>\n"
+    body += "".join(f"<p><b>{html.escape(it.id)}</b>: {it.cite}</p>\n" for it in works)
+    if together:
+        body += f"<p>{together}</p>\n"
+    if any(it.line for it in works):
+        body += "<h2>References</h2>\n"
+        is_hanging = looks.get("bibliography-hanging-indent") == "true"
+        body += "".join(entry(it.line, is_hanging) for it in works if it.line)
+    return PAGE.format(
+        language=html.escape(language), title=html.escape(title), body=body,
+        spacing=0.3 + 0.5 * number(looks.get("bibliography-entry-spacing", ""), 1),
+        lines=1.4 * max(1, number(looks.get("bibliography-line-spacing", ""), 1)))

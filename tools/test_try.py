@@ -1,0 +1,304 @@
+"""The rows of tools/test_style about tools/try."""
+import collections
+import json
+import re
+import resource
+import shutil
+import subprocess
+from typing import Any
+
+from csl_source.document import Refused
+from csl_source.items import items as read_items
+from kit import TOP
+
+STYLES = "tools/samples"
+# An item in which nothing is wrong, and what the first sample style prints of it.
+BOOK = {"id": "b", "type": "book", "title": "T", "author": [{"family": "Ode"}],
+        "issued": {"date-parts": [[2014]]}}
+OF_BOOK = "b\n  (Ode, 2014)\n  Ode (2014). T.\n"
+# Variables of an item of its own, with the line of the bibliography.
+RIGHT = [
+    ({"issued": {"date-parts": [["2014", "5"]]}}, "Ode (2014). T."),
+    ({"issued": {"raw": "2014-05-02"}}, "Ode (2014). T."),
+    ({"issued": "2014"}, "Ode (2014). T."),
+    ({"issued": {"literal": "2014?"}}, "Ode (2014). T."),
+    ({"issued": {"date-parts": [[2014, 5], [2015, 6]]}}, "Ode (2014). T."),
+    ({"issued": {"date-parts": [[-44]]}}, "Ode (44BC). T."),
+    ({"issued": {"literal": "in spring"}}, "Ode (n.d.). T."),
+    ({"issued": {"date-parts": [[2014]], "season": 2, "circa": True}}, "Ode (2014). T."),
+    ({"type": "webpage", "issued": {"date-parts": [[2014]], "season": "fall"}}, "Ode (2014, Autumn). T."),
+    ({"type": "webpage", "issued": {"date-parts": [[2014, 22]]}}, "Ode (2014, Summer). T."),
+    ({"author": [{"literal": "A, B and C"}]}, "A, B and C (2014). T."),
+    ({"author": [{"given": "Plato"}]}, "Plato (2014). T."),
+    ({"author": [{"family": "Velde", "given": "Hendrik", "non-dropping-particle": "van der"}]},
+     "Velde, H. van der (2014). T."),
+    ({"author": [{"family": "Okafor", "given": "Sam", "suffix": "Jr."}]}, "Okafor, S., Jr. (2014). T."),
+    ({"author": [{"family": "Beethoven", "given": "Ludwig", "dropping-particle": "van"}]},
+     "Beethoven, L. van (2014). T."),
+    ({"author": [{"family": "Alembert", "given": "Jean", "non-dropping-particle": "d'"}]},
+     "d'Alembert, J. (2014). T."),
+    ({"title": "A <i>b</i> \"c\" 'd' \"#"}, "Ode (2014). A b \"c\" 'd' \"#."),
+    ({"title": "a\n b\tc"}, "Ode (2014). a b c."),
+    ({"title": 7}, "Ode (2014). 7."),
+    ({"edition": "2"}, "Ode (2014). T (2nd ed.)."),
+    ({"edition": "revised"}, "Ode (2014). T."),
+    ({"title": None, "shortTitle": "S"}, "Ode (2014)."),
+]
+# Variables with something wrong, the line that is told, and what it says.
+WRONG = [
+    ({"id": None}, 2, "an item needs an `id`"),
+    ({"id": ""}, 3, "an item needs an `id`"),
+    ({"id": True}, 3, "an item needs an `id`"),
+    ({"type": None}, 2, "b: an item needs a `type`"),
+    ({"type": "boook"}, 4, "b: the type `boook` is unknown (is it `book`?)"),
+    ({"titel": "T"}, 8, "b: `titel`: the variable is unknown (is it `title`?)"),
+    ({"title": {"a": 1}}, 5, "b: `title`: a text goes here"),
+    ({"volume": True}, 8, "b: `volume`: a text goes here"),
+    ({"author": "Ode"}, 6, "b: `author`: a list of names goes here"),
+    ({"author": ["Ode"]}, 6,
+     'b: `author`: a name has to be an object, as {"family": "Kwan", "given": "Kevin"}'),
+    ({"author": [{}]}, 6, "b: `author`: a name without `family`, `given` and `literal`"),
+    ({"author": [{"fammily": "O"}]}, 6, "b: `author`: `fammily` is no part of a name (is it `family`?)"),
+    ({"author": [{}] * 10_001}, 6, "b: `author`: more than 10000 names"),
+    ({"issued": 2014}, 7, 'b: `issued`: no date: an object goes here, as {"date-parts": [[2014, 5]]}'),
+    ({"issued": {"date-parts": [["May"]]}}, 7, "b: `issued`: no date: `May` is no number"),
+    ({"issued": {"date-parts": [[2014, 13, 41]]}}, 7, "b: `issued`: no date: the day is 41"),
+    ({"issued": {"date-parts": [[2014, 17]]}}, 7, "b: `issued`: no date: the month is 17"),
+    ({"issued": {"date-parts": [[]]}}, 7, "b: `issued`: no date: a year, a month and a day go here"),
+    ({"issued": {"date-parts": 2014}}, 7,
+     "b: `issued`: no date: `date-parts` is a list of lists, as [[2014, 5, 2]]"),
+    ({"issued": {"date-parts": [[2014]], "season": "wet"}}, 7,
+     "b: `issued`: no date: the season `wet` is unknown"),
+    ({"issued": {"raw": "May 2014"}}, 7, "b: `issued`: no date: `May 2014`"),
+    ({"issued": {"year": 2014}}, 7, "b: `issued`: no date: `year` is no part of one"),
+]
+# Whole files, and what is told of them after the name of the file.
+FILES = [
+    (b"", ":1: no JSON: Expecting value"),
+    (b"[", ":1: no JSON: Expecting value"),
+    (b"\n[{]", ":2: no JSON: Expecting property name enclosed in double quotes"),
+    (b'[{"id": 1, "type": "book"} {}]', ":1: no JSON: a `,` or a `]` goes here"),
+    (b"7", ':1: no list of items, as [{"id": "a", "type": "book"}]'),
+    (b'{"id": "a"}', ':1: no list of items, as [{"id": "a", "type": "book"}]'),
+    (b"[7]", ":1: an item has to be an object"),
+    (b"[NaN]", ":1: no JSON: `NaN` is no value"),
+    (b"[" * 100_000, ":1: no JSON: it is nested too deep"),
+    (b"\n\xff", ":2: no UTF-8"),
+    (b"title: T", ":1: no JSON: Expecting value"),
+]
+# Words that are wrong, and what is told of them.
+WORDS = [
+    ([], "a style is missing"),
+    (["a.csl", "b.json", "c"], "one word too many: c"),
+    (["a.csl", "--colour"], "there is no option --colour"),
+    (["a.csl", "--sort=no"], "there is no option --sort=no"),
+    (["a.csl", "--locale"], "--locale needs a word after it"),
+    (["a.csl", "--html="], "--html needs a word after it"),
+    (["a.rows", "--locale", "de-DE"], "--locale goes with a CSL file; rows have default-locale"),
+    ([f"{STYLES}/footnotes.csl", "--html", f"{STYLES}/footnotes.csl"],
+     f"--html would write over {STYLES}/footnotes.csl"),
+]
+
+
+class TrialTests:
+    """Tests of tools/try, for a class that has `row` and `room`."""
+
+    def tried(self, *words: str, **how: Any) -> tuple[int, str, list[str]]:
+        """The status, the output and the lines of faults of the tool."""
+        how |= {"stdin": subprocess.DEVNULL, "capture_output": True}
+        ran = subprocess.run([f"{TOP}/tools/try", *words], **how)
+        return ran.returncode, ran.stdout.decode(), ran.stderr.decode().splitlines()
+
+    def file(self, name: str, content: str | bytes) -> str:
+        """The path of a new file."""
+        path = f"{self.room}/{name}"
+        with open(path, "wb") as it:
+            it.write(content.encode() if isinstance(content, str) else content)
+        return path
+
+    def items(self, items: list[dict[str, Any]]) -> str:
+        """The path of a file of items, each variable on a line of its own."""
+        texts = []
+        for item in items:
+            variables = (f"{json.dumps(name)}: {json.dumps(it)}" for name, it in item.items())
+            texts.append("{\n" + ",\n".join(variables) + "\n}")
+        return self.file("items.json", "[\n" + ",\n".join(texts) + "\n]")
+
+    def read(self, path: str) -> tuple[list[str], list[str]]:
+        """What is read of a file: the `id` of each item, and what is told without the name of the file."""
+        try:
+            works, faults = read_items(path, collections.Counter())
+        except Refused as why:
+            works, faults = [], [str(why)]
+        return [it.id for it in works], [it.removeprefix(path) for it in faults]
+
+    def of_items(self, items: list[dict[str, Any]], *words: str) -> tuple[int, str, list[str]]:
+        """What is printed of these items, and what is told of the file."""
+        path = self.items(items)
+        status, text, faults = self.tried(f"{STYLES}/author_year.csl", path, *words)
+        faults = [it.removeprefix(path) for it in faults if it.startswith(path)]
+        return status, text.split("The first")[0], faults
+
+    def test_items(self) -> None:
+        """Items, right ones and wrong ones. Beside a wrong one the right ones are printed."""
+        items = [{**BOOK, **more, "id": f"i{place}"} for place, (more, _) in enumerate(RIGHT)]
+        status, text, faults = self.of_items(items)
+        given = dict(re.findall(r"^i(\d+)\n  .*\n  (.*)$", text, re.M))
+        self.row("right items", (status, faults), (0, []))
+        for place, (more, wanted) in enumerate(RIGHT):
+            self.row(f"the item {more}", given.get(str(place)), wanted)
+        for more, line, why in WRONG:
+            item = {name: value for name, value in {**BOOK, **more}.items() if value is not None}
+            given = self.read(self.items([item, BOOK]))
+            self.row(f"the wrong item {str(more)[:99]}", given, (["b"], [f":{line}: {why}"]))
+        item = {"id": "w", "type": "a", "titel": "T"}
+        told = [":4: w: the type `a` is unknown", ":5: w: `titel`: the variable is unknown (is it `title`?)"]
+        self.row("an item with two faults", self.of_items([item, BOOK]), (1, OF_BOOK, told))
+        self.row("many wrong items", len(self.of_items([item] * 30)[2]), 21)
+
+    def test_item_files(self) -> None:
+        """Files of items that are no JSON, or too large, or not there. What is right before a fault is
+        printed."""
+        style = f"{STYLES}/author_year.csl"
+        for content, why in FILES:
+            given = self.read(self.file("items.json", content))
+            self.row(f"the file {content[:30]!r}", given[1], [why])
+        path = self.file("items.json", "[]")
+        self.row("no items", self.faults(style, path), (1, "", [f"{path}: no items"]))
+        path = self.file("items.json", json.dumps([BOOK])[:-1] + ", {]")
+        told = [f"{path}:1: no JSON: Expecting property name enclosed in double quotes"]
+        self.row("a fault in the second item", self.faults(style, path), (1, OF_BOOK, told))
+        path = self.file("items.json", "\ufeff" + json.dumps({"items": [BOOK]}))
+        self.row("a list in an object", self.faults(style, path), (0, OF_BOOK, []))
+        path = self.file("items.json", b" " * 33_000_000)
+        large = "more than 32 MB: take fewer items"
+        for it, why in (path, large), ("/dev/zero", large), (f"{path}.no", "No such file or directory"), \
+                (self.room, "Is a directory"):
+            self.row(f"the file {it}", self.faults(style, it), (1, "", [f"{it}: {why}"]))
+        for it in "no.csl", "no.rows":
+            self.row(f"the style {it}", self.faults(it), (1, "", [f"{it}: No such file or directory"]))
+        path = self.file("none.rows", "layout title\n")
+        self.row("rows without a style", self.faults(path), (1, "", [f"{path}: no line `base` with a style"]))
+        path = self.file("wrong.rows", "base (citation (text variabel=title))\n")
+        self.row("rows with a fault", self.faults(path), (1, "", [f"{path}: no such attribute here: variabel"]))
+
+    def faults(self, *words: str) -> tuple[int, str, list[str]]:
+        """What the tool prints, and what it tells beside what is left out."""
+        status, text, faults = self.tried(*words)
+        left_out = re.compile(r": \d+ places? \(|`author` is missing")
+        return status, text.split("The first")[0], [it for it in faults if not left_out.search(it)]
+
+    def test_trial_words(self) -> None:
+        """Words that the tool refuses, and its help."""
+        example = "; for example: tools/try apa.csl items.json --html list.html"
+        for words, why in WORDS:
+            self.row(f"the words {words}", self.tried(*words), (2, "", [f"tools/try: {why}{example}"]))
+        self.row("--help of tools/try", self.tried("--help")[::2], (0, []))
+        with open("/dev/full", "w") as full:
+            for words in ["--help"], [f"{STYLES}/footnotes.csl"]:
+                ran = subprocess.run([f"{TOP}/tools/try", *words], stdout=full, stderr=subprocess.PIPE, text=True)
+                given = ran.returncode, ran.stderr.splitlines()[-1]
+                wanted = 1, "tools/try: standard output refuses the answer"
+                self.row(f"a full disk: tools/try {words}", given, wanted)
+
+    def test_locales(self) -> None:
+        """The language of the library that the style names, another one, that of a file, and those of
+        rows."""
+        style, path = f"{STYLES}/bracketed.csl", self.file("items.json", json.dumps([{**BOOK, "edition": 2}]))
+        for words, wanted in ([], "2nd ed."), (["--locale", "de-DE"], "2. Aufl."), (["--locale=fr"], "2ᵉ éd."), \
+                (["--locale", "tools/style_tests/fr.xml"], "2e éd."):
+            line = self.faults(style, path, *words)[1].splitlines()[-1]
+            self.row(f"a language: {words}", line, f"  [1] Ode, T, {wanted}, 2014.")
+        why = "es-ES: the library has en-US, fr-FR, de-DE: of another language give the locale's file"
+        self.row("no such language", self.faults(style, path, "--locale", "es-ES"), (1, "", [why]))
+        rows = subprocess.run([f"{TOP}/tools/style", "--rows", style], capture_output=True, check=True).stdout
+        given = self.faults(self.file("style.rows", rows), path)
+        self.row("a style in rows", given, (0, "b\n  [1]\n  [1] Ode, T, 2nd ed., 2014.\n", []))
+
+    def test_sorted(self) -> None:
+        """The order of a style: by names without accents, then by dates. What has no key comes last."""
+        works = [("Zuse", 1), ("Östlund", 2), ("Ødegård", 2), ("Oster", 2019), ("Oster", 2001), ("", 3)]
+        items = [{**BOOK, "id": f"{name}{year}", "author": [{"family": name}] if name else [],
+                  "issued": {"date-parts": [[year]]}, "title": ""} for name, year in works]
+        text = self.of_items(items, "--sort")[1]
+        wanted = ["Ødegård2", "Oster2001", "Oster2019", "Östlund2", "Zuse1", "3"]
+        self.row("sorted works", re.findall(r"^(\S+)$", text, re.M), wanted)
+        path = self.file("unsorted.rows", "base (citation title)\n")
+        told = [f"{path}: it sorts nothing: the works are in their order"]
+        self.row("a style that sorts nothing", self.faults(path, "--sort")[::2], (0, told))
+
+    def test_page(self) -> None:
+        """A web page: texts are escaped, and only web addresses are links."""
+        file = f"{self.room}/list.html"
+        items = [{**BOOK, "id": "<b>", "title": "<script>", "URL": "javascript:alert(1)"},
+                 {**BOOK, "URL": "https://example.org/"}]
+        status, _, faults = self.of_items(items, "--html", file)
+        with open(file, encoding="utf-8") as it:
+            text = it.read()
+        self.row("a page is written", (status, faults), (0, []))
+        self.row("no script on the page", "<script" in text, False)
+        self.row("the links of the page", re.findall('href="(.*?)"', text), ["https://example.org/"])
+        self.row("the lines of the page", text.count('<div class="entry hanging">'), 2)
+        self.row("the title of the page", re.findall("<h1>(.*)</h1>", text), ["Author and year"])
+        self.tried(f"{STYLES}/bracketed.csl", "--html", file)
+        with open(file, encoding="utf-8") as it:
+            self.row("numbers beside lines", it.read().count('<div class="entry columns"><div>['), 8)
+        told = self.faults(f"{STYLES}/bracketed.csl", "--html", f"{self.room}/no/no")
+        self.row("a page without a place", (told[0], len(told[2])), (1, 1))
+
+    def test_hostile_items(self) -> None:
+        """What has no shape in an item or in a style is written by its number, and no line is forged."""
+        hostile = "a\x1b[31m\u202e\nb.json:1: forged"
+        shown = r"a [31m\u{202e} b.json:1: forged"
+        items = [{**BOOK, "id": hostile, "title": hostile}, {**BOOK, "id": hostile, hostile: 1},
+                 {**BOOK, "title": "\ud800"}]
+        status, text, faults = self.of_items(items)
+        self.row("a hostile item", (status, text.splitlines()[0]), (1, shown))
+        self.row("a hostile variable", faults, [f":9: {shown}: `{shown}`: the variable is unknown"])
+        self.row("half of a character", text.splitlines()[-1], "  Ode (2014). \ufffd.")
+        self.row("no control characters", set(re.findall("[\0-\x1f\x7f-\x9f\u202e\u2028]", text)), {"\n"})
+
+    def test_missing(self) -> None:
+        """A macro and a term that are missing are told, and so is a layout that is too large."""
+        path = self.file("missing.rows", 'base (citation title (text macro=no) (text term=in))\n')
+        told = [f"{path}: the {it} is missing: it prints nothing" for it in ("macro `no`", "term `in`")]
+        self.row("what is missing", self.faults(path)[2], told)
+        twice = (f"(text macro=m{it}) (text macro=m{it})" for it in range(1, 41))
+        macros = " ".join(f"(macro name=m{place} {it})" for place, it in enumerate(twice))
+        path = self.file("large.rows", f"base {macros} (macro name=m40 title) (citation (text macro=m0))\n")
+        self.row("a large layout", self.faults(path), (1, "", [f"{path}: the layout is too large: citation"]))
+
+    def test_no_kit(self) -> None:
+        """Without the kit, and without a program of an earlier call, there is one line."""
+        top = f"{self.room}/no_kit"
+        leave_out = shutil.ignore_patterns("out")
+        for it in "crates", "tools":
+            shutil.copytree(f"{TOP}/{it}", f"{top}/{it}", ignore=leave_out)
+        shutil.copy2(f"{TOP}/crates.txt", top)
+        words = [f"{top}/tools/try", f"{top}/{STYLES}/footnotes.csl"]
+        ran = subprocess.run(words, env={"PATH": "/usr/bin:/bin"}, capture_output=True, text=True)
+        told = ran.stderr.splitlines()[-1].split(":")[1]
+        self.row("no kit", (ran.returncode, ran.stdout, told), (127, "", " there is no command `rt` on PATH"))
+
+    def test_many(self) -> None:
+        """Many items, whose cost may not grow with the square of their number."""
+        many = json.dumps([{**BOOK, "id": it} for it in range(20_000)], indent=1)
+        self.row("many items are read", len(self.read(self.file("many.json", many))[0]), 20_000)
+        path = self.file("many.json", json.dumps([{**BOOK, "id": it} for it in range(100)]))
+        # (it takes three seconds of a core)
+        how = {"preexec_fn": lambda: resource.setrlimit(resource.RLIMIT_CPU, (20, 20))}
+        status, text, _ = self.tried(f"{STYLES}/author_year.csl", path, "--sort", **how)
+        self.row("many items are printed", (status, text.count("\n  Ode (2014). T.")), (0, 100))
+
+    def all_of_trials(self) -> None:
+        """All of these tests."""
+        self.test_trial_words()
+        self.test_items()
+        self.test_item_files()
+        self.test_locales()
+        self.test_sorted()
+        self.test_page()
+        self.test_hostile_items()
+        self.test_missing()
+        self.test_no_kit()
+        self.test_many()
