@@ -7,6 +7,7 @@ import shutil
 import subprocess
 from typing import Any
 
+from csl_source import library
 from csl_source.document import Refused
 from csl_source.items import items as read_items
 from kit import TOP
@@ -209,8 +210,8 @@ class TrialTests:
                 (["--locale", "tools/style_tests/fr.xml"], "2e éd."):
             line = self.faults(style, path, *words)[1].splitlines()[-1]
             self.row(f"a language: {words}", line, f"  [1] Ode, T, {wanted}, 2014.")
-        why = "es-ES: the library has en-US, fr-FR, de-DE: of another language give the locale's file"
-        self.row("no such language", self.faults(style, path, "--locale", "es-ES"), (1, "", [why]))
+        why = f"da-DK: the library has {', '.join(library.languages())}: of another language give the locale's file"
+        self.row("no such language", self.faults(style, path, "--locale", "da-DK"), (1, "", [why]))
         rows = subprocess.run([f"{TOP}/tools/style", "--rows", style], capture_output=True, check=True).stdout
         given = self.faults(self.file("style.rows", rows), path)
         self.row("a style in rows", given, (0, "b\n  [1]\n  [1] Ode, T, 2nd ed., 2014.\n", []))

@@ -5,6 +5,8 @@ import textwrap, unicodedata
 LINE, ARGUMENTS, ITEMS, FIELDS = 100, 60, 59, 18
 # Rather than more lines than this for several parts, or for one, a function calls others.
 STEPS, ONE = 26, 34
+# A space at which no line of a comment ends.
+NO_BREAK = "\N{NO-BREAK SPACE}"
 KEYWORDS = set(
     "abstract alloc as async await become box break const continue crate data do dyn else ensures enum extern false final fn for gen ghost if "
     "impl in invariant let loop macro match mod move mut open override priv prove pub record ref requires return ruleset self static struct "
@@ -33,7 +35,8 @@ def comment(text: str, indent: int, mark: str = "///") -> list[str]:
     """The lines of a comment."""
     begin = f"{' ' * indent}{mark} "
     how = {"initial_indent": begin, "subsequent_indent": begin}
-    return textwrap.wrap(text, LINE, break_on_hyphens=False, break_long_words=False, **how)
+    lines = textwrap.wrap(text, LINE, break_on_hyphens=False, break_long_words=False, **how)
+    return [it.replace(NO_BREAK, " ") for it in lines]
 
 
 def snake(text, instead):

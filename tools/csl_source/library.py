@@ -57,16 +57,6 @@ def variants(enum: str) -> dict[str, str]:
 
 
 @functools.cache
-def languages():
-    """The languages of the library: the name of each of CSL's locales that it has, with the function that returns it."""
-    found = {}
-    for path in glob.glob(f"{TOP}/crates/csl/src/words/*.rt"):
-        with open(path, encoding="utf-8") as it:
-            found[re.search(r"locale `([-A-Za-z]+)`", it.read())[1]] = os.path.basename(path)[:-3]
-    return found
-
-
-@functools.cache
 def kinds():
     """The kinds of entries, by name."""
     return variants("Kind")

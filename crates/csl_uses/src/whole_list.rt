@@ -1,6 +1,6 @@
 //! A whole list, end to end, to be copied: works sorted, numbered, cited, disambiguated, listed.
 
-use crate::{finish, fold};
+use crate::{finish, fold, links};
 use csl::style::{Layout, NameVariable, Scope, Style};
 use csl::{
     BufWriteFormat, CitationNumber, CiteProperties, DisambiguateState, ElemChildren, EntryLike,
@@ -83,8 +83,8 @@ impl<'w, T: EntryLike> Listed<'w, T> {
         self.props.speculative.disambiguation = DisambiguateState::NameDisambiguation(names);
     }
 
-    /// The line of the work as HTML, finished. It has the number and the suffix of the cite, not its
-    /// names.
+    /// The line of the work as HTML, finished, with links to web addresses alone. It has the number
+    /// and the suffix of the cite, not its names.
     ///
     /// # Errors
     /// [`Error::Memory`]: out of memory, here or in the entry.
@@ -95,7 +95,7 @@ impl<'w, T: EntryLike> Listed<'w, T> {
         }
         match csl::bibliography_entry(alloc, style, self.work, &self.props)? {
             Some(line) => {
-                let mut content = line.content;
+                let mut content = links::with_web_links(alloc, line.content)?;
                 finish::finish(alloc, style, &mut content)?;
                 Ok(content.to_text(alloc, BufWriteFormat::Html)?)
             }
