@@ -3,9 +3,9 @@
 //! A style and its locale are values. Nodes, options and terms are in [`style`], a work and its
 //! parts in [`literature`], the output tree in [`tree`]. [`cite`] and [`bibliography_entry`] render
 //! an entry of any type that implements [`EntryLike`]. For a single node, [`context`] has the
-//! context and [`render`] the calls. [`english`], [`german`], [`spanish`] and seven like them return
-//! locales to begin with, in the words of CSL's own. The errors of all calls convert into [`Error`].
-//! `docs/CALLING.md` has a whole program.
+//! context and [`render`] the calls. [`english`], [`german`], [`spanish`] and seven more return
+//! locales to begin with, in the words of CSL's own. The errors of all calls convert into
+//! [`Error`]. `docs/CALLING.md` has a whole program.
 #![tactic(auto)]
 
 mod error;

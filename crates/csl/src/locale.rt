@@ -156,9 +156,10 @@ pub fn german(alloc: Global) -> Result<Locale, Memory>
     locale(alloc, &GERMAN)
 }
 
-/// Returns the French locale, as [`english`] does the English one: the terms with their genders, the
-/// ordinals of each gender, the dates and the options of CSL's own locale `fr-FR`. A comma or period
-/// stays outside a closing quote, and only the first day of a month is written as an ordinal.
+/// Returns the French locale, as [`english`] does the English one: the terms with their genders,
+/// the ordinals of each gender, the dates and the options of CSL's own locale `fr-FR`. A comma or
+/// period stays outside a closing quote, and only the first day of a month is written as an
+/// ordinal.
 ///
 /// # Errors
 /// [`Memory`]: out of memory.
@@ -169,8 +170,8 @@ pub fn french(alloc: Global) -> Result<Locale, Memory>
     locale(alloc, &FRENCH)
 }
 
-/// Returns the Spanish locale, as [`english`] does the English one: all that CSL's own locale `es-ES`
-/// has. A comma or period stays outside a closing quote.
+/// Returns the Spanish locale, as [`english`] does the English one: all that CSL's own locale
+/// `es-ES` has. A comma or period stays outside a closing quote.
 ///
 /// # Errors
 /// [`Memory`]: out of memory.
@@ -181,8 +182,8 @@ pub fn spanish(alloc: Global) -> Result<Locale, Memory>
     locale(alloc, &SPANISH)
 }
 
-/// Returns the Italian locale, as [`english`] does the English one: all that CSL's own locale `it-IT`
-/// has. A comma or period stays outside a closing quote.
+/// Returns the Italian locale, as [`english`] does the English one: all that CSL's own locale
+/// `it-IT` has. A comma or period stays outside a closing quote.
 ///
 /// # Errors
 /// [`Memory`]: out of memory.
@@ -193,8 +194,8 @@ pub fn italian(alloc: Global) -> Result<Locale, Memory>
     locale(alloc, &ITALIAN)
 }
 
-/// Returns the Portuguese locale, as [`english`] does the English one: all that CSL's own locale `pt-BR`
-/// has. A comma or period stays outside a closing quote.
+/// Returns the Portuguese locale, as [`english`] does the English one: all that CSL's own locale
+/// `pt-BR` has. A comma or period stays outside a closing quote.
 ///
 /// # Errors
 /// [`Memory`]: out of memory.
@@ -217,8 +218,8 @@ pub fn dutch(alloc: Global) -> Result<Locale, Memory>
     locale(alloc, &DUTCH)
 }
 
-/// Returns the Polish locale, as [`english`] does the English one: all that CSL's own locale `pl-PL`
-/// has. A comma or period stays outside a closing quote.
+/// Returns the Polish locale, as [`english`] does the English one: all that CSL's own locale
+/// `pl-PL` has. A comma or period stays outside a closing quote.
 ///
 /// # Errors
 /// [`Memory`]: out of memory.
@@ -229,8 +230,8 @@ pub fn polish(alloc: Global) -> Result<Locale, Memory>
     locale(alloc, &POLISH)
 }
 
-/// Returns the Japanese locale, as [`english`] does the English one: all that CSL's own locale `ja-JP`
-/// has. A comma or period stays outside a closing quote.
+/// Returns the Japanese locale, as [`english`] does the English one: all that CSL's own locale
+/// `ja-JP` has. A comma or period stays outside a closing quote.
 ///
 /// # Errors
 /// [`Memory`]: out of memory.
@@ -241,8 +242,8 @@ pub fn japanese(alloc: Global) -> Result<Locale, Memory>
     locale(alloc, &JAPANESE)
 }
 
-/// Returns the Chinese locale, as [`english`] does the English one: all that CSL's own locale `zh-CN`
-/// has. A comma or period stays outside a closing quote.
+/// Returns the Chinese locale, as [`english`] does the English one: all that CSL's own locale
+/// `zh-CN` has. A comma or period stays outside a closing quote.
 ///
 /// # Errors
 /// [`Memory`]: out of memory.
