@@ -14,12 +14,11 @@ use Rattle.csl_elements.specs.declared.taxonomy.NumberOrPageVariable.{NumberOrPa
 use Rattle.csl_elements.specs.declared.taxonomy.NumberOrPageVariable.TheVariants as number_or_page
 use Rattle.csl_elements.specs.declared.taxonomy.StandardVariable.{StandardVariable}
 use Rattle.csl_elements.specs.declared.taxonomy.Variable.TheVariants as variable
-use Rattle.csl_elements.specs.Dressing.{TextDressing}
 use Rattle.csl_elements.specs.NamedSet.{NamedItem, a_variable, a_kind, NamedSet, named_union}
 use Rattle.csl_elements.specs.Names.{NamesNode}
-use Rattle.csl_elements.specs.Node.{Target, of_variable, of_term, of_value, ExpandedNode, expanded_text, expanded_macro, unknown_macro, expanded_number, expanded_label, expanded_date, expanded_names, shorthand, expanded_choose, expanded_group, ExpandedNodes, no_expanded_nodes, expanded_node, ExpandedBranches, no_expanded_branches, expanded_otherwise, expanded_branch, ExpandedSubstitutes, no_expanded_substitutes, expanded_substitute, ExpandedLayout}
+use Rattle.csl_elements.specs.Node.{of_variable, of_term, of_value, ExpandedNode, expanded_text, expanded_macro, unknown_macro, expanded_number, expanded_label, expanded_date, expanded_names, shorthand, expanded_choose, expanded_group, ExpandedNodes, no_expanded_nodes, expanded_node, ExpandedBranches, no_expanded_branches, expanded_otherwise, expanded_branch, ExpandedSubstitutes, no_expanded_substitutes, expanded_substitute, ExpandedLayout}
 use Rattle.csl_elements.proofs.Variables.{name_decides}
-use Rattle.csl_style.specs.Named.{the_variable, the_number_or_page, date_if, named_in_target, named_in_nodes}
+use Rattle.csl_style.specs.Named.{the_variable, the_number_or_page, date_if, named_in_nodes}
 use Rattle.csl_entry.specs.Alike.{SameNamedAnswers}
 use Rattle.csl_entry.specs.Answers.{Answers}
 use Rattle.csl_entry.specs.declared.citation.cite.SpecialForm.{SpecialForm}
@@ -29,7 +28,6 @@ use Rattle.csl_context.specs.State.{State, Inherited, is_suppressed, state_after
 use Rattle.csl_context.specs.RenderInput.{RenderInput, peek_names}
 use Rattle.csl_names.specs.NamesForms.{writes_no_name}
 use Rattle.csl_names.specs.NamesLists.{PersonLists, may_merge, merged_lists, all_empty, each_resolved, peeked_lists, resolved_lists, lists_state}
-use Rattle.csl_nodes.specs.Conditions.{branch_matches}
 use Rattle.csl_nodes.specs.Usage.{Info, no_info, should_render_group, info_union, as_child_info, without_group_flag, group_info, macro_info}
 use Rattle.csl_nodes.specs.Text.{RenderOutput, render_output, then_output}
 use Rattle.csl_render.specs.CiteContent.{AgreeButForAuthors}
