@@ -1,13 +1,15 @@
-"""The built libraries of this checkout's sources that the kit keeps: what `rt ci` proved on this machine, here or in another checkout."""
+"""The built libraries of this checkout's sources that the kit keeps: what `rt ci` proved on this
+machine, here or in another checkout."""
 import os
+import re
 import shutil
 import subprocess
 import sys
 
 from kit import TOP, kit
 
-# `rt` has no word for it. This asks its own code for the library of each crate, lowest first, over those below.
-# A kit that keeps nothing, or in another way, gives none.
+# `rt` has no word for it. This asks its own code for the library of each crate, lowest first, over
+# those below. A kit that keeps nothing, or in another way, gives none.
 ASKING = """
 import os, sys
 path = os.path.realpath(sys.argv[1])
@@ -29,17 +31,19 @@ def copy_sources(room: str) -> None:
     """Copies the crates of the checkout into a room, without edits and without what was built."""
     for file in ("crates.txt", "HANDLES"):
         shutil.copy2(f"{TOP}/{file}", room)
-    shutil.copytree(f"{TOP}/crates", f"{room}/crates", ignore=shutil.ignore_patterns("out", "must-fail"))
+    left_out = shutil.ignore_patterns("out", "must-fail")
+    shutil.copytree(f"{TOP}/crates", f"{room}/crates", ignore=left_out)
 
 
 def kept_libraries(room: str, below: list[str]) -> dict[str, str]:
-    """The libraries among these crates that an earlier `rt ci` built of these very sources, each with its place in the room, a new
-    folder."""
+    """The libraries among these crates that an earlier `rt ci` built of these very sources, each
+    with its place in the room, a new folder."""
     os.makedirs(room)
     copy_sources(room)
     asked = [sys.executable, "-c", ASKING, f"{kit()}/bin/rt"]
-    said = subprocess.run(asked, cwd=room, stdin=subprocess.DEVNULL, stdout=subprocess.PIPE, stderr=subprocess.DEVNULL, text=True).stdout
-    names = [line.removeprefix("library ") for line in said.splitlines() if line.startswith("library ")]
+    said = subprocess.run(asked, cwd=room, stdin=subprocess.DEVNULL, stdout=subprocess.PIPE,
+                          stderr=subprocess.DEVNULL, text=True).stdout
+    names = re.findall(r"^library (.*)$", said, re.M)
     return {name: f"{room}/crates/{name}/out/rlib/{name}.rlib" for name in names if name in below}
 
 
