@@ -1,80 +1,106 @@
-"""A program that nothing proves, compiled as `rattle build` compiles a proved one. It is the bitcode of an unproved build without its run-time checks, and
-with those functions out of line that the sources keep so. For the tools that count instructions and stack."""
-import glob, os, re, signal, subprocess, time
+"""A program that nothing proves, compiled as `rattle build` compiles a proved one. It is the
+bitcode of an unproved build without its run-time checks, and with those functions out of line that
+the sources keep so. For the tools that count instructions and stack."""
+import glob
+import os
+import re
+import signal
+import subprocess
+import time
+from typing import Iterable, Iterator
 
 from kit import TARGET, Failure, kit, words_of_try
 
 # As `rattle build` compiles a program.
-COMPILED = """-march=x86-64 -mllvm -no-trap-after-noreturn -ffunction-sections -fdata-sections -mllvm -trap-unreachable
-    -mllvm -no-x86-call-frame-opt -mllvm -disable-machine-licm -mllvm -disable-postra-machine-licm -mllvm -sink-common-insts=false
-    --no-default-config -no-canonical-prefixes -fintegrated-cc1 -fno-crash-diagnostics -Werror -c -x ir -fPIE -O3""".split()
+COMPILED = """-march=x86-64 -mllvm -no-trap-after-noreturn -ffunction-sections -fdata-sections
+    -mllvm -trap-unreachable -mllvm -no-x86-call-frame-opt -mllvm -disable-machine-licm
+    -mllvm -disable-postra-machine-licm -mllvm -sink-common-insts=false --no-default-config
+    -no-canonical-prefixes -fintegrated-cc1 -fno-crash-diagnostics -Werror -c -x ir -fPIE
+    -O3""".split()
 
 
 class OtherKit(Failure):
     """The kit leaves no bitcode."""
 
 
-def bitcode(crate, words, room):
-    """The bitcode that the kit compiles before it runs the program with these words. It is complete as soon as its object file exists."""
+def module_in(folder: str) -> str | None:
+    """The bitcode of the program in the folder of a build, once it is complete."""
+    for file in glob.glob(f"{folder}/**/module*.o*", recursive=True):
+        module = f"{os.path.dirname(file)}/module.bc"
+        # The first module, of a few bytes, only shows that the compiler runs.
+        if os.path.exists(module) and os.path.getsize(module) > 100_000:
+            return module
+    return None
+
+
+def bitcode(crate: str, words: list[str], room: str) -> str:
+    """The bitcode that the kit compiles before it runs the program with these words. It is complete
+    as soon as its object file exists."""
     temp, kept = f"{room}/try", f"{room}/checked.bc"
     os.mkdir(temp)
     words = words_of_try(os.path.basename(crate), f"{room}/checkout", words)
     with open(f"{room}/said", "w+") as said:
-        tried = subprocess.Popen(words, cwd=crate, env={**os.environ, "TMPDIR": temp}, start_new_session=True, stdin=subprocess.DEVNULL,
-                                 stdout=said, stderr=said)
+        tried = subprocess.Popen(words, cwd=crate, env={**os.environ, "TMPDIR": temp},
+                                 start_new_session=True, stdin=subprocess.DEVNULL, stdout=said,
+                                 stderr=said)
         while tried.poll() is None and not os.path.exists(kept):
-            for it in glob.glob(f"{temp}/**/module*.o*", recursive=True):
-                module = f"{os.path.dirname(it)}/module.bc"
-                # The first module, of a few bytes, only shows that the compiler runs.
-                if os.path.exists(module) and os.path.getsize(module) > 100_000:
-                    os.link(module, kept)
-                    break
+            if module := module_in(temp):
+                os.link(module, kept)
             time.sleep(0.02)
         if tried.poll() is None:
             os.killpg(tried.pid, signal.SIGTERM)
         tried.wait()
         said.seek(0)
         if not os.path.exists(kept):
-            raise (Failure if tried.returncode else OtherKit)(f"{said.read()[-3000:]}\nthe build left no bitcode")
+            why = f"{said.read()[-3000:]}\nthe build left no bitcode"
+            raise Failure(why) if tried.returncode else OtherKit(why)
         return kept
 
 
-def out_of_line(checkout):
-    """The functions that the sources keep out of line, as expressions: the bitcode of an unproved build does not say so."""
-    names = set()
+def out_of_line(checkout: str) -> set[str]:
+    """The functions that the sources keep out of line, as expressions: the bitcode of an unproved
+    build does not say so."""
+    hint, head = r"#\[inline\(never\)\]\s+(?:#\[.*\]\s+)*", r"(?:pub(?:\(crate\))? )?fn (\w+)"
+    marked = re.compile(hint + head)
+    names: set[str] = set()
     for file in glob.glob(f"{checkout}/crates/*/src/**/*.rt", recursive=True):
         crate = os.path.relpath(file, f"{checkout}/crates").partition("/")[0]
-        with open(file) as it:
-            marked = re.findall(r"#\[inline\(never\)\]\s+(?:#\[.*\]\s+)*(?:pub(?:\(crate\))? )?fn (\w+)", it.read())
-        names.update(rf"{crate}::(?:\w+::)*{name}" for name in marked)
+        with open(file) as source:
+            functions = marked.findall(source.read())
+        names.update(rf"{crate}::(?:\w+::)*{name}" for name in functions)
     return names
 
 
-def unchecked(text, kept):
-    """The program without its run-time checks: as in a proved program, it never reaches a place where they would stop it. It keeps these
-    functions out of line."""
+def unchecked(text: Iterable[str], kept: re.Pattern[str]) -> Iterator[str]:
+    """The program without its run-time checks: as in a proved program, it never reaches a place
+    where they would stop it. It keeps these functions out of line."""
     for line in text:
         if line.startswith(('  call void @"rattle-llvm-checks::', "  call void @llvm.trap()")):
             continue
         if line.startswith("attributes #"):
-            line = re.sub(r' "frame-pointer"="all"| sanitize_address', "", line).replace("{ }", "{ nounwind }")
+            line = re.sub(r' "frame-pointer"="all"| sanitize_address', "", line)
+            line = line.replace("{ }", "{ nounwind }")
         elif line.startswith("define ") and kept.search(line):
             line = line.replace(") #", ") noinline #", 1)
         yield line
 
 
-def built(crate, words, room, kept=(), given=None):
-    """The program of a crate that was laid out in the room. The functions `kept` stay out of line too. With these words it succeeds. If its
-    bitcode is given, it is not compiled again."""
+def built(crate: str, words: list[str], room: str, kept: Iterable[str] = (),
+          given: str | None = None) -> str:
+    """The program of a crate that was laid out in the room. The functions `kept` stay out of line
+    too. With these words it succeeds. If its bitcode is given, it is not compiled again."""
     functions = "|".join(out_of_line(f"{room}/checkout").union(kept))
     checked, tools = given or bitcode(crate, words, room), f"{kit()}/toolchain"
     clang = [f"{tools}/bin/clang", f"--target={TARGET}", f"--sysroot={tools}"]
     plain = ["-x", "ir", "-S", "-emit-llvm", "-O0", "-Xclang", "-disable-llvm-passes"]
     subprocess.run([*clang, *plain, checked, "-o", f"{room}/checked.ll"], check=True)
-    with open(f"{room}/checked.ll") as text, open(f"{room}/program.ll", "w") as to:
-        to.writelines(unchecked(text, re.compile(rf'@"?(?:{functions})(::<|"|\()')))
+    heads = re.compile(rf'@"?(?:{functions})(::<|"|\()')
+    with open(f"{room}/checked.ll") as text, open(f"{room}/program.ll", "w") as plain_text:
+        plain_text.writelines(unchecked(text, heads))
     subprocess.run([*clang, *COMPILED, f"{room}/program.ll", "-o", f"{room}/program.o"], check=True)
-    linked = ["--target", TARGET, "--toolchain", tools, "-o", f"{room}/program", f"{room}/program.o"]
-    libraries = [f"{kit()}/c/{it}" for it in ("libos_c.a", "liblibc_c.a")]
-    subprocess.run([f"{kit()}/bin/rattle-link", *linked, *libraries], check=True, stdout=subprocess.DEVNULL, stderr=subprocess.DEVNULL)
-    return f"{room}/program"
+    program = f"{room}/program"
+    linked = ["--target", TARGET, "--toolchain", tools, "-o", program, f"{room}/program.o"]
+    libraries = [f"{kit()}/c/{name}" for name in ("libos_c.a", "liblibc_c.a")]
+    subprocess.run([f"{kit()}/bin/rattle-link", *linked, *libraries], check=True,
+                   stdout=subprocess.DEVNULL, stderr=subprocess.DEVNULL)
+    return program

@@ -1,30 +1,45 @@
-"""Rattle sources that nothing proves stand outside of the crates, as `.rs` files in FOLDER/src, since `rt ci` takes each `.rt` file for a crate's.
-FOLDER/uses names the libraries that they use. This module lays them out as a crate, named after the folder, in a copy of the checkout.
+"""Rattle sources that nothing proves stand outside of the crates, as `.rs` files in FOLDER/src,
+since `rt ci` takes each `.rt` file for a crate's. FOLDER/uses names the libraries that they use.
+This module lays them out as a crate, named after the folder, in a copy of the checkout.
 
 Its `compiled` keeps what the kit compiles, so that tools can link it into a program of their own.
 
-As a command, `python3 tools/unproved.py FOLDER..` formats the files of the folders where they stand."""
-import glob, os, signal, subprocess, sys, tempfile, time
+As a command, `python3 tools/unproved.py FOLDER..` formats the files of the folders where they
+stand."""
+import glob
+import os
+import signal
+import subprocess
+import sys
+import tempfile
+import time
+from typing import Iterable
 
 from kit import TARGET, TOP, Failure, kit, words_of_try
 
 
-def checked(words):
+def checked(words: list[str]) -> None:
     """Runs a command that has to succeed."""
-    it = subprocess.run(words, stdin=subprocess.DEVNULL, stdout=subprocess.PIPE, stderr=subprocess.STDOUT, text=True)
-    if it.returncode != 0:
-        raise Failure(f"{words[0]} ended with {it.returncode}: {it.stdout[-1000:]}")
+    ran = subprocess.run(words, stdin=subprocess.DEVNULL, stdout=subprocess.PIPE,
+                         stderr=subprocess.STDOUT, text=True)
+    if ran.returncode != 0:
+        raise Failure(f"{words[0]} ended with {ran.returncode}: {ran.stdout[-1000:]}")
 
 
-def unpack(paths, commit, to, renamed=()):
-    """Copies paths of the checkout, or of a commit, to a folder, without what is built. `renamed` has expressions of sed for the new names."""
-    pack = ["git", "-C", TOP, "archive", commit] if commit else ["tar", "-c", "-C", TOP, "--exclude=out"]
+def unpack(paths: list[str], commit: str | None, to: str, renamed: Iterable[str] = ()) -> None:
+    """Copies paths of the checkout, or of a commit, to a folder, without what is built. `renamed`
+    has expressions of sed for the new names."""
+    pack = ["tar", "-c", "-C", TOP, "--exclude=out"]
+    if commit:
+        pack = ["git", "-C", TOP, "archive", commit]
     packed = subprocess.run([*pack, *paths], check=True, stdout=subprocess.PIPE).stdout
-    subprocess.run(["tar", "-x", "-C", to, *(f"--transform={it}" for it in renamed)], input=packed, check=True)
+    transforms = [f"--transform={expression}" for expression in renamed]
+    subprocess.run(["tar", "-x", "-C", to, *transforms], input=packed, check=True)
 
 
-def lay_out(folder, room, commit=None, sources=None):
-    """The crate of a folder: its sources as they stand, or those of the commit `sources`, in a copy of the checkout, or of a commit."""
+def lay_out(folder: str, room: str, commit: str | None = None, sources: str | None = None) -> str:
+    """The crate of a folder: its sources as they stand, or those of the commit `sources`, in a copy
+    of the checkout, or of a commit."""
     name, to = os.path.basename(folder), f"{room}/checkout"
     os.mkdir(to)
     unpack(["crates", "crates.txt"], commit, to)
@@ -34,8 +49,9 @@ def lay_out(folder, room, commit=None, sources=None):
     return f"{to}/crates/{name}"
 
 
-def formatted(folder, crate):
-    """Formats a crate that was laid out, and returns the files of its folder that the format changes, each with its new text."""
+def formatted(folder: str, crate: str) -> dict[str, str]:
+    """Formats a crate that was laid out, and returns the files of its folder that the format
+    changes, each with its new text."""
     subprocess.run([f"{kit()}/bin/rt", "fmt"], cwd=crate, check=True, stdout=subprocess.DEVNULL)
     texts = {}
     for file in glob.glob(f"{TOP}/{folder}/src/**/*.rs", recursive=True):
@@ -47,8 +63,9 @@ def formatted(folder, crate):
     return texts
 
 
-def link_anew(file, seen, second):
-    """Gives a file a second name, once."""
+def link_anew(file: str, seen: dict[int, str], second: str) -> None:
+    """Gives a file a second name, once. `seen` has the second names, by the numbers of the
+    files."""
     try:
         number = os.stat(file).st_ino
         if number not in seen:
@@ -58,23 +75,39 @@ def link_anew(file, seen, second):
         pass
 
 
-def compiled(crate, words, room):
-    """What the kit compiles before it runs the program of a crate with these words, unproved: the object files that it links, and the bitcode
-    of the program. Each is there only while it works, so a second name is given to it as it begins to be written. The bitcode is complete as
-    soon as its object file is there. The first module, of a few bytes, only shows that the compiler runs."""
+class Compiled:
+    """What the kit compiles of a program: its object files, and its bitcode, by their numbers."""
+
+    def __init__(self, room: str, name: str) -> None:
+        self.base, self.temp = f"{room}/{name}", f"{room}/{name}-tmp"
+        self.objects: dict[int, str] = {}
+        self.bitcode: dict[int, str] = {}
+        os.mkdir(self.temp)
+
+    def keep(self) -> None:
+        """Gives a second name to each file that is there, and has none yet."""
+        for file in glob.glob(f"{self.temp}/**/module*.o*", recursive=True):
+            link_anew(file, self.objects, f"{self.base}-{len(self.objects)}.o")
+            beside = f"{os.path.dirname(file)}/module.bc"
+            # The first module, of a few bytes, only shows that the compiler runs.
+            if os.path.exists(beside) and os.path.getsize(beside) > 100_000:
+                link_anew(beside, self.bitcode, f"{self.base}-{len(self.bitcode)}.bc")
+
+
+def compiled(crate: str, words: list[str], room: str) -> tuple[list[str], str | None]:
+    """What the kit compiles before it runs the program of a crate with these words, unproved: the
+    object files that it links, and the bitcode of the program. Each is there only while it works,
+    so a second name is given to it as it begins to be written. The bitcode is complete as soon as
+    its object file is there."""
     name, checkout = os.path.basename(crate), os.path.dirname(os.path.dirname(crate))
-    temp, objects, bitcode = f"{room}/{name}-tmp", {}, {}
-    os.mkdir(temp)
+    found = Compiled(room, name)
     with open(f"{room}/{name}.log", "w+b") as log:
-        build = subprocess.Popen(words_of_try(name, checkout, words), cwd=crate, env={**os.environ, "TMPDIR": temp}, start_new_session=True,
+        build = subprocess.Popen(words_of_try(name, checkout, words), cwd=crate,
+                                 env={**os.environ, "TMPDIR": found.temp}, start_new_session=True,
                                  stdin=subprocess.DEVNULL, stdout=log, stderr=log)
         try:
             while build.poll() is None:
-                for it in glob.glob(f"{temp}/**/module*.o*", recursive=True):
-                    link_anew(it, objects, f"{room}/{name}-{len(objects)}.o")
-                    beside = f"{os.path.dirname(it)}/module.bc"
-                    if os.path.exists(beside) and os.path.getsize(beside) > 100_000:
-                        link_anew(beside, bitcode, f"{room}/{name}-{len(bitcode)}.bc")
+                found.keep()
                 time.sleep(0.01)
         finally:
             if build.poll() is None:
@@ -84,25 +117,27 @@ def compiled(crate, words, room):
         said = log.read().decode(errors="replace")
     if build.returncode != 0:
         raise Failure(f"{name}: the build ended with {build.returncode}: {said[-1000:]}")
-    return list(objects.values()), next(iter(bitcode.values()), None)
+    return list(found.objects.values()), next(iter(found.bitcode.values()), None)
 
 
-def objects_of(crate, words, room):
-    """The object files that the kit links into the program of a crate, which it runs with these words."""
-    return compiled(crate, words, room)[0]
-
-
-def link(program, objects):
-    """Links object files with the kit's libraries into a program. Its run-time checks stay in it."""
+def link(program: str, objects: list[str]) -> None:
+    """Links object files with the kit's libraries into a program. Its run-time checks stay in
+    it."""
     at = kit()
-    libraries = [f"{at}/c/{it}" for it in ("libos_c.a", "liblibc_c.a", "asan.a")]
-    checked([f"{at}/bin/rattle-link", "--target", TARGET, "--toolchain", f"{at}/toolchain", "-o", program, *objects, *libraries])
+    libraries = [f"{at}/c/{name}" for name in ("libos_c.a", "liblibc_c.a", "asan.a")]
+    target = ["--target", TARGET, "--toolchain", f"{at}/toolchain"]
+    checked([f"{at}/bin/rattle-link", *target, "-o", program, *objects, *libraries])
 
 
-if __name__ == "__main__":
+def main() -> None:
+    """Formats the files of the folders that the words name."""
     for given in sys.argv[1:]:
         with tempfile.TemporaryDirectory() as room:
             folder = os.path.relpath(os.path.realpath(given), TOP)
             for file, text in formatted(folder, lay_out(folder, room)).items():
-                with open(file, "w") as to:
-                    to.write(text)
+                with open(file, "w") as source:
+                    source.write(text)
+
+
+if __name__ == "__main__":
+    main()
