@@ -69,15 +69,16 @@ def is_one_of(place: str, functions: Iterable[str]) -> bool:
 
 
 class Edit:
-    """An edit of a crate: its pairs of old and new texts, by file, the functions that they change,
-    and the cycles of calls of these.
+    """An edit of a crate of a checkout: its pairs of old and new texts, by file, the functions that
+    they change, and the cycles of calls of these.
 
     After a check of these functions `open` is an open goal of one of them, `fault` says why the
     check could not read the edit, and `is_proved` tells whether it left no goal open and proved
     those functions that are in no cycle."""
 
-    def __init__(self, name: str, file: str) -> None:
-        self.name, self.file, self.label = name, file, file.removeprefix(f"{TOP}/")
+    def __init__(self, name: str, file: str, top: str = TOP) -> None:
+        self.name, self.file, self.label = name, file, file.removeprefix(f"{top}/")
+        self.crate = f"{top}/crates/{name}"
         self.open, self.fault, self.is_proved = "", "", False
         self.pairs = self.read()
         # A `use` line is of no function, and proves nothing.
@@ -108,7 +109,7 @@ class Edit:
         each place. Changes nothing, and returns an empty list, if an old text is not there once."""
         made, places = dict(texts), []
         for file, old, new in self.pairs:
-            path = f"{TOP}/crates/{self.name}/{file}"
+            path = f"{self.crate}/{file}"
             if file not in made and os.path.isfile(path):
                 with open(path, encoding="utf-8") as text:
                     made[file] = text.read()
