@@ -190,8 +190,9 @@ class Check:
         for file, line, error in re.findall(error_at, self.said, re.M):
             for edit in self.edits_at(file, int(line)):
                 if not file.startswith("proofs/"):
-                    edit.fault = f"{file}:{line}: {error}"
-                    unread.append(edit)
+                    if edit not in unread:
+                        edit.fault = f"{file}:{line}: {error}"
+                        unread.append(edit)
                 elif not re.search(LOST_NAME, error):
                     edit.open = edit.open or f"{file}:{line}: {error}"
         return unread
