@@ -16,6 +16,14 @@ def edits_in(folder: str) -> list[str]:
     return [f"{folder}/{name}" for name in names if name.endswith(".edit")]
 
 
+def parameters_in(text: str) -> set[str]:
+    """The names of the parameters that a block declares: of `<'a, T: Into<U>, U>` T, U and a."""
+    plain = text[1:-1].replace("->", "")
+    while (less := re.sub(r"<[^<>]*>|\([^()]*\)", "", plain)) != plain:
+        plain = less
+    return set(re.findall(r"(?:^|,)\s*(?:const )?'?(\w+)", plain))
+
+
 def words_of_type(text: str, own: set[str], between: str) -> str:
     """The words of a type in the name of a block, without paths, lifetimes, bounds, `_` and the
     block's own parameters."""
@@ -26,12 +34,11 @@ def words_of_type(text: str, own: set[str], between: str) -> str:
 def owner(head: str) -> str:
     """The name that rt gives to the block of an `impl` or `trait` line: NumericPut for `impl Put
     for Numeric {`, AnyPut for `impl<T: Number> Put for T {`."""
-    parts = r"(?:pub )?(?:impl|trait)(<(?:[^<>]|<[^<>]*>)*>)? (?:(\S.*) for )?([^{]*)"
+    parts = r"(?:pub )?(?:impl|trait)(<(?:->|[^<>]|<[^<>]*>)*>)? (?:(\S.*) for )?([^{]*)"
     split = re.match(parts, head)
     if not split:
         raise Failure(f"this is no head of a block: {head}")
-    parameters, of_trait, of_type = split[1] or "", split[2] or "", split[3]
-    own = set(re.findall(r"\w+", parameters))
+    own, of_trait, of_type = parameters_in(split[1] or ""), split[2] or "", split[3]
     of_whom = "Any" if of_type.strip() in own else words_of_type(of_type, own, "+")
     return of_whom + words_of_type(of_trait, own, "")
 
