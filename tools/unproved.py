@@ -15,7 +15,7 @@ import tempfile
 import time
 from typing import Iterable
 
-from kit import TARGET, TOP, Failure, kit, words_of_try
+from kit import TARGET, TOP, Failure, kit, status_of, words_of_try
 
 
 def checked(words: list[str]) -> None:
@@ -129,15 +129,16 @@ def link(program: str, objects: list[str]) -> None:
     checked([f"{at}/bin/rattle-link", *target, "-o", program, *objects, *libraries])
 
 
-def main() -> None:
-    """Formats the files of the folders that the words name."""
+def main() -> int:
+    """Formats the files of the folders that the words name, and returns the status."""
     for given in sys.argv[1:]:
         with tempfile.TemporaryDirectory() as room:
             folder = os.path.relpath(os.path.realpath(given), TOP)
             for file, text in formatted(folder, lay_out(folder, room)).items():
                 with open(file, "w") as source:
                     source.write(text)
+    return 0
 
 
 if __name__ == "__main__":
-    main()
+    sys.exit(status_of(main))
