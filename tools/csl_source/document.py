@@ -1,5 +1,6 @@
 """A CSL file as a tree whose nodes know their lines."""
 import re
+from typing import Iterator, NoReturn, cast
 from xml.etree.ElementTree import Element
 from xml.parsers import expat
 
@@ -19,39 +20,58 @@ class Node(Element):
     place = ""
 
     @property
-    def name(self):
+    def name(self) -> str:
         """The name without CSL's namespace. A name of another namespace is whole."""
         return self.tag.removeprefix(CS)
 
-    def refuse(self, why):
+    def __iter__(self) -> Iterator["Node"]:
+        """The elements right inside."""
+        return (cast(Node, self[place]) for place in range(len(self)))
+
+    def below(self, *path: str) -> list["Node"]:
+        """The elements of CSL at the end of a path of names."""
+        return cast("list[Node]", self.findall("/".join(CS + name for name in path)))
+
+    def first(self, *path: str) -> "Node | None":
+        """The first element of CSL at the end of a path of names."""
+        return next(iter(self.below(*path)), None)
+
+    def refuse(self, why: str) -> NoReturn:
+        """Refuses the file, for a reason in this element."""
         raise Refused(f"{self.place}: {why}")
 
 
 class Reader:
     """Builds the tree. A document type is refused, so the only entities are those of XML itself."""
 
-    def __init__(self, path):
+    def __init__(self, path: str) -> None:
         self.path = path
+        self.root: Node | None = None
+        self.open: list[Node] = []
+        self.texts: list[str] = []
         self.parser = expat.ParserCreate(namespace_separator="}")
         self.parser.buffer_text = True
         self.parser.StartElementHandler = self.start
         self.parser.EndElementHandler = self.end
         # (in pieces, where it is long)
-        self.parser.CharacterDataHandler = lambda text: self.texts.append(text)
+        self.parser.CharacterDataHandler = self.texts.append
         self.parser.StartDoctypeDeclHandler = self.refuse_document_type
-        self.root, self.open, self.texts = None, [], []
 
-    def refuse_document_type(self, *_):
+    def refuse_document_type(self, *_: object) -> None:
+        """Refuses the file at a document type."""
         raise Refused(f"{self.place()}: a document type is not allowed")
 
-    def place(self):
+    def place(self) -> str:
+        """Where the reader is: the path and the line."""
         return f"{self.path}:{self.parser.CurrentLineNumber}"
 
-    def start(self, name, attributes):
-        def whole(it):
-            return "{" + it if "}" in it else it
+    def start(self, name: str, attributes: dict[str, str]) -> None:
+        """Begins an element, inside of the open one."""
+        def whole(name: str) -> str:
+            """A name with its namespace in braces."""
+            return "{" + name if "}" in name else name
 
-        node = Node(whole(name), {whole(it): value for it, value in attributes.items()})
+        node = Node(whole(name), {whole(key): value for key, value in attributes.items()})
         node.place = self.place()
         if len(self.open) == DEEPEST:
             node.refuse(f"the elements are nested more than {DEEPEST} levels deep")
@@ -62,12 +82,14 @@ class Reader:
             self.root = node
         self.open.append(node)
 
-    def end(self, _):
+    def end(self, _: str) -> None:
+        """Ends the open element."""
         self.end_text()
         self.open.pop()
 
-    def end_text(self):
-        """Puts the text that ends here where it belongs: into the open element, or after the last one inside of it."""
+    def end_text(self) -> None:
+        """Puts the text that ends here where it belongs: into the open element, or after the last
+        one inside of it."""
         if self.texts:
             node, text = self.open[-1], "".join(self.texts)
             self.texts.clear()
@@ -77,7 +99,7 @@ class Reader:
                 node.text = text
 
 
-def document(path, name):
+def document(path: str, name: str) -> Node:
     """The root of a CSL file, an element of this name."""
     reader = Reader(path)
     try:
@@ -90,6 +112,7 @@ def document(path, name):
     except (ValueError, LookupError) as why:
         raise Refused(f"{reader.place()}: no XML: {why}") from None
     root = reader.root
+    assert root is not None, "expat takes no document without an element"
     if root.tag != CS + name:
         root.refuse(f"the root is `{root.name}`, not CSL's `{name}`")
     if not re.fullmatch(r"1\.0(\.\d+)?", root.get("version", "")):

@@ -1,6 +1,9 @@
-"""The names that a style may use, read from the sources of the library: a new variable, kind, term or option
-is known at once."""
-import functools, glob, os, re
+"""The names that a style may use, read from the sources of the library: a new variable, kind, term
+or option is known at once."""
+import functools
+import glob
+import os
+import re
 
 TOP = os.path.dirname(os.path.dirname(os.path.dirname(os.path.realpath(__file__))))
 # Other spellings: of Appendix IV of CSL 1.0.2, and of CSL 1.0.1.
@@ -9,20 +12,20 @@ VARIABLES = ("StandardVariable", "NumberVariable", "PageVariable", "DateVariable
 
 
 @functools.cache
-def sources():
+def sources() -> list[str]:
     """The texts of `csl_style` and of the crates that it stands on, in this order."""
     with open(f"{TOP}/crates.txt", encoding="utf-8") as lines:
         below = next(line.split(":")[1].split() for line in lines if line.startswith("csl_style:"))
     texts = []
     for crate in ["csl_style", *below]:
         for path in sorted(glob.glob(f"{TOP}/crates/{crate}/src/**/*.rt", recursive=True)):
-            with open(path, encoding="utf-8") as it:
-                texts.append(it.read())
+            with open(path, encoding="utf-8") as source:
+                texts.append(source.read())
     return texts
 
 
 @functools.cache
-def body(head):
+def body(head: str) -> str:
     """The lines between the braces after this head, in the first source that has it."""
     for text in sources():
         found = re.search(rf"^ *{re.escape(head)}[^\n]*\{{\n(.*?)^\}}", text, re.M | re.S)
@@ -31,7 +34,7 @@ def body(head):
     raise SystemExit(f"tools/style: no source of csl_style has `{head}`")
 
 
-def csl_name(variant):
+def csl_name(variant: str) -> str:
     """The name of a variant in CSL: `small-caps` for `SmallCaps`."""
     return re.sub(r"(?<!^)(?=[A-Z])", "-", variant).lower()
 
@@ -39,16 +42,18 @@ def csl_name(variant):
 @functools.cache
 def read_names() -> dict[str, dict[str, str]]:
     """The variants that each `from_name` reads, by their names."""
-    found, arm = {}, re.compile(r'^ +"([\w -]+)" => Some\(((\w+)::\w+(?:\([\w:]+\))?)\),$', re.M)
+    arm = re.compile(r'^ +"([\w -]+)" => Some\(((\w+)::\w+(?:\([\w:]+\))?)\),$', re.M)
+    found: dict[str, dict[str, str]] = {}
     for text in sources():
-        for name, it, enum in arm.findall(text):
-            found.setdefault(enum, {})[name] = it
+        for name, variant, enum in arm.findall(text):
+            found.setdefault(enum, {})[name] = variant
     return found
 
 
 @functools.cache
 def variants(enum: str) -> dict[str, str]:
-    """The variants of an enum, by the names that its `from_name` reads, else by their names in CSL."""
+    """The variants of an enum, by the names that its `from_name` reads, else by their names in
+    CSL."""
     names = read_names().get(enum)
     if names is None:
         arms = re.findall(r"^    (\w+),$", body(f"pub enum {enum} "), re.M)
@@ -57,41 +62,43 @@ def variants(enum: str) -> dict[str, str]:
 
 
 @functools.cache
-def kinds():
+def kinds() -> dict[str, str]:
     """The kinds of entries, by name."""
     return variants("Kind")
 
 
 @functools.cache
-def locators():
+def locators() -> dict[str, str]:
     """The kinds of locators that CSL names."""
-    return {name: it for name, it in variants("Locator").items() if name != "custom"}
+    named = variants("Locator")
+    return {name: variant for name, variant in named.items() if name != "custom"}
 
 
 @functools.cache
-def terms():
-    """What the library has for the name of a term. `page` is two terms here, one of a variable and one of a
-    locator."""
-    found = {}
+def terms() -> dict[str, list[str]]:
+    """What the library has for the name of a term. `page` is two terms here, one of a variable and
+    one of a locator."""
+    found: dict[str, list[str]] = {}
     for sort, enum in re.findall(r"^    (\w+)\((\w+)\),$", body("pub enum Term "), re.M):
-        for name, it in (locators() if enum == "Locator" else variants(enum)).items():
-            found.setdefault(name, []).append(f"Term::{sort}({it})")
+        for name, variant in (locators() if enum == "Locator" else variants(enum)).items():
+            found.setdefault(name, []).append(f"Term::{sort}({variant})")
     return found
 
 
 @functools.cache
 def languages() -> dict[str, tuple[str, tuple[str, str]]]:
-    """The languages that the library has a locale of, by their names in CSL: the call that returns it, and
-    its options `punctuation-in-quote` and `limit-day-ordinals-to-day-1`."""
-    found = {}
+    """The languages that the library has a locale of, by their names in CSL: the call that returns
+    it, and its options `punctuation-in-quote` and `limit-day-ordinals-to-day-1`."""
+    found: dict[str, tuple[str, tuple[str, str]]] = {}
     for path in sorted(glob.glob(f"{TOP}/crates/csl/src/words/*.rt")):
-        with open(path, encoding="utf-8") as it:
-            text = it.read()
+        with open(path, encoding="utf-8") as source:
+            text = source.read()
         name = re.search(r"CSL's own locale\s+(?://! )?`([\w-]+)`", text)
-        options = [re.search(rf"^    {it}: (true|false),$", text, re.M)
-                   for it in ("punctuation_in_quote", "limit_day_ordinals_to_day_1")]
-        if None in (name, *options):
-            raise SystemExit(f"tools/style: {path} does not name its locale of CSL and both options")
-        found[name[1]] = os.path.basename(path).removesuffix(".rt"), tuple(it[1] for it in options)
+        quotes, days = (re.search(rf"^    {option}: (true|false),$", text, re.M)
+                        for option in ("punctuation_in_quote", "limit_day_ordinals_to_day_1"))
+        if not (name and quotes and days):
+            lacks = "does not name its locale of CSL and both options"
+            raise SystemExit(f"tools/style: {path} {lacks}")
+        found[name[1]] = os.path.basename(path).removesuffix(".rt"), (quotes[1], days[1])
     # (English is what a style takes whose language is none of these)
     return {"en-US": found["en-US"]} | found

@@ -1,5 +1,6 @@
 """The notation of tests/rows: forms in parentheses, and texts in quotes."""
 import re
+from typing import Iterable, Union
 
 CONTROL = re.compile("[\0-\x1f\x7f-\x9f\u2028\u2029]")
 LINE = 100
@@ -25,7 +26,8 @@ def attribute(name: str, value: str) -> str:
 class Form:
     """A list in parentheses: a word, attributes, and the words, texts and lists in it."""
 
-    def __init__(self, head: str, attributes: list[str] = (), parts: list["str | Form"] = ()):
+    def __init__(self, head: str, attributes: Iterable[str] = (),
+                 parts: Iterable[Union[str, "Form"]] = ()) -> None:
         self.head, self.attributes, self.parts = head, list(attributes), list(parts)
 
     def flat(self) -> str:
@@ -39,11 +41,11 @@ class Form:
         if len(space + text) <= LINE:
             return [space + text]
         found = filled(f"{space}({self.head}", self.attributes, indent + 2)
-        for it in self.parts:
-            if isinstance(it, Form):
-                found += it.lines(indent + 2)
+        for part in self.parts:
+            if isinstance(part, Form):
+                found += part.lines(indent + 2)
             else:
-                found[-1:] = filled(found[-1], [it], indent + 2)
+                found[-1:] = filled(found[-1], [part], indent + 2)
         found[-1] += ")"
         return found
 
@@ -51,9 +53,9 @@ class Form:
 def filled(line: str, words: list[str], indent: int) -> list[str]:
     """The line with these words after it, on further lines once it is full."""
     found = [line]
-    for it in words:
-        if len(f"{found[-1]} {it}") > LINE:
-            found.append(" " * indent + it)
+    for word in words:
+        if len(f"{found[-1]} {word}") > LINE:
+            found.append(" " * indent + word)
         else:
-            found[-1] += f" {it}"
+            found[-1] += f" {word}"
     return found
