@@ -44,6 +44,9 @@ RIGHT = [
     ({"edition": "2"}, "Ode (2014). T (2nd ed.)."),
     ({"edition": "revised"}, "Ode (2014). T."),
     ({"title": None, "shortTitle": "S"}, "Ode (2014)."),
+    ({"type": "webpage", "issued": {"date-parts": [["2012", "02", 29]]}}, "Ode (2012, February 29). T."),
+    ({"issued": {"date-parts": [["2014", "", ""]]}}, "Ode (2014). T."),
+    ({"author": [{"family": "Ode", "multi": {"_key": {}}}], "multi": {"main": {}}}, "Ode (2014). T."),
 ]
 # Variables with something wrong, the line that is told, and what it says.
 WRONG = [
@@ -66,6 +69,11 @@ WRONG = [
     ({"issued": {"date-parts": [[2014, 13, 41]]}}, 7, "b: `issued`: no date: the day is 41"),
     ({"issued": {"date-parts": [[2014, 17]]}}, 7, "b: `issued`: no date: the month is 17"),
     ({"issued": {"date-parts": [[]]}}, 7, "b: `issued`: no date: a year, a month and a day go here"),
+    ({"issued": {"date-parts": [["", 5]]}}, 7, "b: `issued`: no date: a year, a month and a day go here"),
+    ({"issued": {"date-parts": [[0]]}}, 7, "b: `issued`: no date: there is no year 0"),
+    ({"issued": {"date-parts": [[2014, 2, 29]]}}, 7, "b: `issued`: no date: the day is 29"),
+    ({"issued": {"raw": "2014-04-31"}}, 7, "b: `issued`: no date: the day is 31"),
+    ({"issued": {}}, 7, "b: `issued`: no date: it is empty"),
     ({"issued": {"date-parts": 2014}}, 7,
      "b: `issued`: no date: `date-parts` is a list of lists, as [[2014, 5, 2]]"),
     ({"issued": {"date-parts": [[2014]], "season": "wet"}}, 7,
@@ -244,8 +252,9 @@ class TrialTests:
         self.tried(f"{STYLES}/bracketed.csl", "--html", file)
         with open(file, encoding="utf-8") as it:
             self.row("numbers beside lines", it.read().count('<div class="entry columns"><div>['), 8)
-        told = self.faults(f"{STYLES}/bracketed.csl", "--html", f"{self.room}/no/no")
-        self.row("a page without a place", (told[0], len(told[2])), (1, 1))
+        for it, why in ("/dev/full", "No space left on device"), (f"{self.room}/no/no", "No such file or directory"):
+            told = self.faults(f"{STYLES}/bracketed.csl", "--html", it)
+            self.row(f"the page {it}", (told[0], told[2]), (1, [f"{it}: {why}"]))
 
     def test_hostile_items(self) -> None:
         """What has no shape in an item or in a style is written by its number, and no line is forged."""
@@ -264,6 +273,9 @@ class TrialTests:
         path = self.file("missing.rows", 'base (citation title (text macro=no) (text term=in))\n')
         told = [f"{path}: the {it} is missing: it prints nothing" for it in ("macro `no`", "term `in`")]
         self.row("what is missing", self.faults(path)[2], told)
+        path = self.file("doubled.rows", 'base (citation (group delimiter=. "a." "b  c...d   e"))\n')
+        told = [f"{path}: {it} are doubled where parts meet: 8 places" for it in ("periods", "spaces")]
+        self.row("what is doubled", self.faults(path)[2], told)
         twice = (f"(text macro=m{it}) (text macro=m{it})" for it in range(1, 41))
         macros = " ".join(f"(macro name=m{place} {it})" for place, it in enumerate(twice))
         path = self.file("large.rows", f"base {macros} (macro name=m40 title) (citation (text macro=m0))\n")

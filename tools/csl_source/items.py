@@ -17,11 +17,11 @@ MOST_BYTES, MOST_PERSONS, MOST_HINTS, MOST_LETTERS = 32_000_000, 10_000, 100, 60
 # Older names of variables, and the variables of which one is the short form of another.
 OLDER = {"shortTitle": "title-short", "journalAbbreviation": "container-title-short"}
 SHORT = {"title": "title-short", "container-title": "container-title-short"}
-# What says nothing of the work itself. The citation answers some of it.
+# What says nothing of the work itself. The citation answers some of it, and `multi` has other languages.
 PASSED_OVER = {"id", "type", "categories", "custom", "citation-number", "locator",
-               "first-reference-note-number", "year-suffix"}
+               "first-reference-note-number", "year-suffix", "multi"}
 NAME_TEXTS = {"family", "given", "literal", "dropping-particle", "non-dropping-particle", "suffix"}
-PERSON = NAME_TEXTS | {"comma-suffix", "static-ordering", "parse-names"}
+PERSON = NAME_TEXTS | {"comma-suffix", "static-ordering", "parse-names", "multi"}
 DATE = {"date-parts", "season", "circa", "literal", "raw"}
 SEASONS = ("spring", "summer", "autumn", "winter")
 ISO = re.compile(r"(-?\d{1,6})(?:-(\d\d?)(?:-(\d\d?))?)?([?~%]?)(?:/.*)?")
@@ -30,6 +30,7 @@ SPACES = re.compile("[ \t\r\n]+")
 HALVES = re.compile("[\ud800-\udfff]")
 # What is left out of items, as tools/try says it (csl_source/left.py).
 RANGES, WORDS, ORDER, TAGS = "ranges of dates", "dates in words", "`static-ordering`", "markup in texts"
+PARTS = "no date: a year, a month and a day go here"
 
 
 class Wrong(Exception):
@@ -83,6 +84,11 @@ def number_of(value: Any) -> int:
     if not re.fullmatch(r"-?\d{1,6}", text) or not text.isascii():
         raise Wrong(f"no date: {named(text)} is no number")
     return int(text)
+
+
+def days_of(year: int, month: int) -> int:
+    """The days of a month, where each fourth year is a leap year."""
+    return 30 if month in (4, 6, 9, 11) else 31 if month != 2 else 28 if year % 4 else 29
 
 
 class Reader:
@@ -199,7 +205,7 @@ class Reader:
         if found is None:
             if value.get("raw") is None and text:
                 return None, False
-            raise Wrong(f"no date: {named(text)}")
+            raise Wrong(f"no date: {named(text)}" if text else "no date: it is empty")
         self.left[RANGES] += "/" in text
         words = [int(it) for it in found.groups()[:3] if it]
         self.check(words)
@@ -210,18 +216,26 @@ class Reader:
         if not isinstance(value, list) or not value or not all(isinstance(it, list) for it in value):
             raise Wrong("no date: `date-parts` is a list of lists, as [[2014, 5, 2]]")
         self.left[RANGES] += len(value) > 1
-        words = [number_of(it) for it in value[0] if it not in (None, "")]
-        self.check(words)
+        parts = list(value[0])
+        while parts and parts[-1] in (None, ""):
+            del parts[-1]
+        if any(it in (None, "") for it in parts):
+            raise Wrong(PARTS)
+        words = [number_of(it) for it in parts]
+        if words[:1] == [0]:
+            raise Wrong("no date: there is no year 0")
         # (44 BC is -44 here, and -43 in the library, which has a year 0)
-        return [words[0] + (words[0] < 0), *words[1:]]
+        words[:1] = [it + (it < 0) for it in words[:1]]
+        self.check(words)
+        return words
 
     def check(self, words: list[int]) -> None:
         """Refuses what is no date. A month from 13 on is a season."""
         if not 1 <= len(words) <= 3:
-            raise Wrong("no date: a year, a month and a day go here")
+            raise Wrong(PARTS)
         if len(words) > 1 and words[1] not in (*range(1, 17), *range(21, 25)):
             raise Wrong(f"no date: the month is {words[1]}")
-        if len(words) > 2 and not 1 <= words[2] <= 31:
+        if len(words) > 2 and not 1 <= words[2] <= days_of(*words[:2]):
             raise Wrong(f"no date: the day is {words[2]}")
 
     def season(self, value: dict[str, Any], words: list[int]) -> list[str]:
