@@ -44,6 +44,8 @@ RIGHT = [
     ({"edition": "2"}, "Ode (2014). T (2nd ed.)."),
     ({"edition": "revised"}, "Ode (2014). T."),
     ({"title": None, "shortTitle": "S"}, "Ode (2014)."),
+    ({"DOI": "10.5555/a"}, "Ode (2014). T. https://doi.org/10.5555/a"),
+    ({"DOI": "https://dx.doi.org/10.5555/a"}, "Ode (2014). T. https://doi.org/10.5555/a"),
     ({"type": "webpage", "issued": {"date-parts": [["2012", "02", 29]]}}, "Ode (2012, February 29). T."),
     ({"issued": {"date-parts": [["2014", "", ""]]}}, "Ode (2014). T."),
     ({"author": [{"family": "Ode", "multi": {"_key": {}}}], "multi": {"main": {}}}, "Ode (2014). T."),

@@ -26,6 +26,8 @@ DATE = {"date-parts", "season", "circa", "literal", "raw"}
 SEASONS = ("spring", "summer", "autumn", "winter")
 ISO = re.compile(r"(-?\d{1,6})(?:-(\d\d?)(?:-(\d\d?))?)?([?~%]?)(?:/.*)?")
 MARKUP = re.compile(r"</?(?:i|b|sub|sup|sc|span)(?:\s[^<>]*)?>", re.IGNORECASE)
+# What some programs write before a DOI. The library writes it itself, where a style wants it.
+BEFORE_DOI = re.compile(r"^(?:https?://(?:dx\.)?doi\.org/|doi:) *", re.IGNORECASE)
 SPACES = re.compile("[ \t\r\n]+")
 HALVES = re.compile("[\ud800-\udfff]")
 # What is left out of items, as tools/try says it (csl_source/left.py).
@@ -130,7 +132,9 @@ class Reader:
         if sort == "StandardVariable":
             short = given.get(SHORT.get(name))
             attributes = [attribute("short", self.plain(short[1]))] if short else []
-            return Form(name, attributes, [in_quotes(self.plain(value))]).flat()
+            text = self.plain(value)
+            text = BEFORE_DOI.sub("", text, count=1) if name == "DOI" else text
+            return Form(name, attributes, [in_quotes(text)]).flat()
         text = text_of(value)
         if sort == "NumberVariable":
             text = re.sub(r"(?<=\d)\s*\N{EN DASH}\s*(?=\d)", "-", text)
