@@ -1,6 +1,7 @@
 """The rows of tools/test_style about tools/try."""
 import collections
 import json
+import os
 import re
 import resource
 import shutil
@@ -11,6 +12,7 @@ from csl_source import library
 from csl_source.document import Refused
 from csl_source.items import items as read_items
 from kit import TOP
+from programs import Program
 
 STYLES = "tools/samples"
 # An item in which nothing is wrong, and what the first sample style prints of it.
@@ -123,6 +125,7 @@ class TrialTests:
     def file(self, name: str, content: str | bytes) -> str:
         """The path of a new file."""
         path = f"{self.room}/{name}"
+        os.makedirs(os.path.dirname(path), exist_ok=True)
         with open(path, "wb") as it:
             it.write(content.encode() if isinstance(content, str) else content)
         return path
@@ -295,6 +298,16 @@ class TrialTests:
         told = ran.stderr.splitlines()[-1].split(":")[1]
         self.row("no kit", (ran.returncode, ran.stdout, told), (127, "", " there is no command `rt` on PATH"))
 
+    def test_kept_at_once(self) -> None:
+        """A program that another call has just kept stays, so that the call can run it."""
+        reader = Program(f"{TOP}/tools/rows_reader", print)
+        reader.out = f"{self.room}/out"
+        file = reader.file_of(reader.sums())
+        self.file("out/unproved-0", "of older sources")
+        self.file(os.path.relpath(file, self.room), "of another call")
+        kept = reader.keep("/bin/true", reader.sums(), lambda _: os.path.exists(file))
+        self.row("kept at once", (kept, os.listdir(reader.out)), (True, [os.path.basename(file)]))
+
     def test_many(self) -> None:
         """Many items, whose cost may not grow with the square of their number."""
         many = json.dumps([{**BOOK, "id": it} for it in range(20_000)], indent=1)
@@ -316,4 +329,5 @@ class TrialTests:
         self.test_hostile_items()
         self.test_missing()
         self.test_no_kit()
+        self.test_kept_at_once()
         self.test_many()
