@@ -15,6 +15,7 @@ PAGE = """<!doctype html>
 <title>{title}</title>
 <style>
 body {{ max-width: 45em; margin: 2em auto; padding: 0 1em; line-height: 1.4; }}
+p {{ margin: 0.3em 0; }}
 .entry {{ margin: {spacing}em 0; line-height: {lines}; overflow-wrap: anywhere; }}
 .entry.hanging {{ padding-left: 2em; text-indent: -2em; }}
 .entry.columns {{ display: flex; gap: 1em; }}
