@@ -1,13 +1,14 @@
 //! Works of a size. Each returns a checksum of what it made.
 
 mod bibliography;
-mod cites;
+pub mod cites;
 mod entry;
 mod full_note;
 mod html;
+mod lists;
 mod literature;
 mod nested;
-mod render;
+pub mod render;
 mod rows;
 mod strangers;
 pub mod styles;
@@ -50,6 +51,7 @@ pub fn count(alloc: Global, name: &str, size: usize) -> Result<usize, WorkError>
         "groups" => nested::groups(alloc, size),
         "macros" => nested::macros(alloc, size),
         "substitutes" => nested::substitutes(alloc, size),
+        "substitutes_suppressed" => nested::substitutes_suppressed(alloc, size),
         "grouped_substitutes" => nested::grouped_substitutes(alloc, size),
         "grouped_substitutes_suppressed" => nested::grouped_substitutes_suppressed(alloc, size),
         "bibliography" => bibliography::bibliography(alloc, size),
@@ -67,6 +69,16 @@ pub fn count(alloc: Global, name: &str, size: usize) -> Result<usize, WorkError>
         "all_authors" => strangers::all_authors(alloc, size),
         "date_parts" => strangers::date_parts(alloc, size),
         "localized_parts" => strangers::localized_parts(alloc, size),
+        "localized_uses" => lists::localized_uses(alloc, size),
+        "localized_asked" => lists::localized_asked(alloc, size),
+        "et_al_children" => lists::et_al_children(alloc, size),
+        "et_al_asked" => lists::et_al_asked(alloc, size),
+        "label_children" => lists::label_children(alloc, size),
+        "labels_asked" => lists::labels_asked(alloc, size),
+        "locale_ordinals" => lists::locale_ordinals(alloc, size),
+        "empty_locales" => lists::empty_locales(alloc, size),
+        "empty_locales_dates" => lists::empty_locales_dates(alloc, size),
+        "empty_locales_asked" => lists::empty_locales_asked(alloc, size),
         "tests" => strangers::tests(alloc, size),
         "name_variables" => strangers::name_variables(alloc, size),
         "long_texts" => strangers::long_texts(alloc, size),
@@ -75,6 +87,9 @@ pub fn count(alloc: Global, name: &str, size: usize) -> Result<usize, WorkError>
         "many_macros_suppressed" => strangers::many_macros_suppressed(alloc, size),
         "colliding_macros" => strangers::colliding_macros(alloc, size),
         "colliding_macros_suppressed" => strangers::colliding_macros_suppressed(alloc, size),
+        "few_colliding_macros_suppressed" => {
+            strangers::few_colliding_macros_suppressed(alloc, size)
+        }
         "doubled" => strangers::doubled(alloc, size),
         _ => Err(WorkError::Unexpected("no such work")),
     }

@@ -46,15 +46,30 @@ fn authors(alloc: Global) -> Result<LayoutRenderingElement, WorkError> {
     Ok(Names::new(alloc, variables).into())
 }
 
-/// Renders the author of an article without editors, in `size` nested substitutes of editors, and
-/// counts the bytes of the plain text.
-pub fn substitutes(alloc: Global, size: usize) -> Result<usize, WorkError> {
-    let mut nodes = vec![in alloc; authors(alloc)?]?;
+/// A style of a node in `size` nested substitutes of editors.
+fn substituted_style(
+    alloc: Global,
+    size: usize,
+    node: LayoutRenderingElement,
+) -> Result<Style, WorkError> {
+    let mut nodes = vec![in alloc; node]?;
     for _ in 0..size {
         let editors = vec![in alloc; NameVariable::Editor]?;
         nodes = vec![in alloc; names_or(alloc, editors, nodes)?]?;
     }
-    size_for_one(alloc, &style(alloc, Vec::new(alloc), nodes)?)
+    style(alloc, Vec::new(alloc), nodes)
+}
+
+/// Renders the author of an article without editors, in `size` nested substitutes of editors, and
+/// counts the bytes of the plain text.
+pub fn substitutes(alloc: Global, size: usize) -> Result<usize, WorkError> {
+    size_for_one(alloc, &substituted_style(alloc, size, authors(alloc)?)?)
+}
+
+/// Renders the title of such an article in the same substitutes, without the author, and counts the
+/// bytes of the plain text.
+pub fn substitutes_suppressed(alloc: Global, size: usize) -> Result<usize, WorkError> {
+    suppressed_size(alloc, &substituted_style(alloc, size, title())?)
 }
 
 /// A style of `size` nested substitutes of editors, each with a group in it. The last group has the

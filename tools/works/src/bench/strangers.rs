@@ -19,7 +19,7 @@ use csl::style::{
 use std::alloc::Global;
 
 /// The limit of the depth, as `docs/CALLING.md` gives it.
-const DEPTH: usize = 64;
+pub const DEPTH: usize = 64;
 
 /// How many substitutes in one another the depth allows, each with a group in it.
 const LEVELS: usize = 31;
@@ -28,7 +28,10 @@ const LEVELS: usize = 31;
 const LEVEL: usize = 6;
 
 /// How many items a macro's list has, and how many texts a long text.
-const ITEMS: usize = 100;
+pub const ITEMS: usize = 100;
+
+/// How many macros a style finds by a hash map, nearly: one with more finds them by an ordered map.
+const HASHED: usize = 250;
 
 /// The names of macros, but for the numbers at their ends.
 const USUAL: &str = "a macro of many of its sort ";
@@ -47,7 +50,7 @@ fn limited(style: Style, size: usize) -> Result<Style, WorkError> {
 
 /// Renders a style within the limits for an article of one author, and counts the bytes of the plain
 /// text.
-fn size_within(alloc: Global, style: Style, size: usize) -> Result<usize, WorkError> {
+pub fn size_within(alloc: Global, style: Style, size: usize) -> Result<usize, WorkError> {
     text_size(alloc, &limited(style, size)?, &article(alloc, 1)?)
 }
 
@@ -58,12 +61,12 @@ fn suppressed_within(alloc: Global, style: Style, size: usize) -> Result<usize, 
 }
 
 /// How many parts of a size the layout has room for, beside itself and what it already has.
-fn room(size: usize, taken: usize, part: usize) -> usize {
+pub fn room(size: usize, taken: usize, part: usize) -> usize {
     size.saturating_sub(1 + taken) / part
 }
 
 /// A node's list of `times` nodes, which the function makes.
-fn repeated<F: FnMut() -> Result<LayoutRenderingElement, WorkError>>(
+pub fn repeated<F: FnMut() -> Result<LayoutRenderingElement, WorkError>>(
     alloc: Global,
     times: usize,
     mut node: F,
@@ -193,7 +196,11 @@ pub fn date_parts(alloc: Global, size: usize) -> Result<usize, WorkError> {
 }
 
 /// `size` parts of a date with the same name.
-fn parts_named(alloc: Global, size: usize, name: DatePartName) -> Result<Vec<DatePart>, WorkError> {
+pub fn parts_named(
+    alloc: Global,
+    size: usize,
+    name: DatePartName,
+) -> Result<Vec<DatePart>, WorkError> {
     let mut parts = Vec::new(alloc);
     for _ in 0..size {
         parts.push(DatePart::new(name))?;
@@ -282,19 +289,22 @@ pub fn doubled(alloc: Global, size: usize) -> Result<usize, WorkError> {
     size_within(alloc, style(alloc, macros, nodes)?, size)
 }
 
-/// Macros with these names and their numbers, each of a title, and a call of each.
+/// At most `most` macros of a title, with these names and numbers, and `times` calls of them in turn.
 fn named_macros(
     alloc: Global,
     times: usize,
+    most: usize,
     prefix: &str,
 ) -> Result<(Vec<CslMacro>, Vec<LayoutRenderingElement>), WorkError> {
     let mut macros = Vec::new(alloc);
     let mut calls = Vec::new(alloc);
     for place in 0..times {
-        let number = 10_000_000 + place;
+        let number = 10_000_000 + place % most;
         let name = format!(in alloc; "{prefix}{number}")?;
-        let nodes = vec![in alloc; title()]?;
-        macros.push(CslMacro::new(alloc, name.as_str(), nodes)?)?;
+        if place < most {
+            let nodes = vec![in alloc; title()]?;
+            macros.push(CslMacro::new(alloc, name.as_str(), nodes)?)?;
+        }
         calls.push(Text::macro_call(alloc, name.as_str())?.into())?;
     }
     Ok((macros, calls))
@@ -302,16 +312,22 @@ fn named_macros(
 
 /// Renders macros with such names, called in a group, and counts the bytes of the plain text.
 fn grouped_macros(alloc: Global, size: usize, prefix: &str) -> Result<usize, WorkError> {
-    let (macros, calls) = named_macros(alloc, room(size, 2, 3), prefix)?;
+    let (macros, calls) = named_macros(alloc, room(size, 2, 3), size, prefix)?;
     let nodes = vec![in alloc; Group::new(calls).into()]?;
     size_within(alloc, style(alloc, macros, nodes)?, size)
 }
 
-/// Renders macros with such names, called in a chain of substitutes, without the author, and counts
-/// the bytes of the plain text. A call takes a level, too.
-fn suppressed_macros(alloc: Global, size: usize, prefix: &str) -> Result<usize, WorkError> {
+/// Renders at most so many macros with such names, called in a chain of substitutes, without the author,
+/// and counts the bytes of the plain text. A call takes a level, too.
+fn suppressed_macros(
+    alloc: Global,
+    size: usize,
+    most: usize,
+    prefix: &str,
+) -> Result<usize, WorkError> {
     let levels = LEVELS - 1;
-    let (macros, calls) = named_macros(alloc, room(size, levels * LEVEL, 3), prefix)?;
+    let times = room(size, levels * LEVEL, 3);
+    let (macros, calls) = named_macros(alloc, times, most, prefix)?;
     let nodes = vec![in alloc; in_substitutes(alloc, levels, calls)?]?;
     suppressed_within(alloc, style(alloc, macros, nodes)?, size)
 }
@@ -323,7 +339,7 @@ pub fn many_macros(alloc: Global, size: usize) -> Result<usize, WorkError> {
 
 /// Renders many macros in a chain of substitutes, without the author.
 pub fn many_macros_suppressed(alloc: Global, size: usize) -> Result<usize, WorkError> {
-    suppressed_macros(alloc, size, USUAL)
+    suppressed_macros(alloc, size, size, USUAL)
 }
 
 /// Renders many macros in a group, whose names all have one hash.
@@ -333,5 +349,11 @@ pub fn colliding_macros(alloc: Global, size: usize) -> Result<usize, WorkError> 
 
 /// Renders many macros in a chain of substitutes, without the author. Their names all have one hash.
 pub fn colliding_macros_suppressed(alloc: Global, size: usize) -> Result<usize, WorkError> {
-    suppressed_macros(alloc, size, COLLIDING)
+    suppressed_macros(alloc, size, size, COLLIDING)
+}
+
+/// Renders calls of [`HASHED`] macros in a chain of substitutes, without the author. Their names all have
+/// one hash.
+pub fn few_colliding_macros_suppressed(alloc: Global, size: usize) -> Result<usize, WorkError> {
+    suppressed_macros(alloc, size, HASHED, COLLIDING)
 }
