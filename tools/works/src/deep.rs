@@ -1,12 +1,16 @@
 //! Works over deep values. Each returns a count.
 
+use crate::bench::cites::year;
+use crate::bench::render::text_size;
 use crate::bench::styles::call;
 use crate::error::WorkError;
 use crate::nodes::{letter, names_or, style};
 use crate::refuse::text_of;
 use crate::trees::{elem, texts};
-use csl::literature::{EntryType, FormatString};
-use csl::style::{Choose, ChooseBranch, CslMacro, Display, Group, LayoutRenderingElement};
+use csl::literature::{Date, EntryType, FormatString};
+use csl::style::{
+    Choose, ChooseBranch, CslMacro, DateVariable, Display, Group, LayoutRenderingElement,
+};
 use csl::tree::simplify_fully;
 use csl::{
     BufWriteFormat, CiteProperties, DisambiguateState, ElemChildren, Entry, InstanceContext,
@@ -34,15 +38,40 @@ fn of_tree(alloc: Global, name: &str, depth: usize) -> Result<usize, WorkError> 
     }
 }
 
-/// Makes a chain of `depth` entries, each the parent of the next, and drops it.
-fn of_parents(alloc: Global, depth: usize) -> Result<usize, WorkError> {
+/// A chain of `depth` entries, each the parent of the next. The first has a date.
+fn ancestors(alloc: Global, depth: usize) -> Result<Vec<Entry>, WorkError> {
     let mut parents = Vec::new(alloc);
+    let mut date = Date::new(1961, Some(4), None, None, false);
     for _ in 0..depth {
         let mut book = Entry::new(alloc, "book", EntryType::Book)?;
         book.parents = parents;
+        book.date = date;
+        date = None;
         parents = vec![in alloc; book]?;
     }
-    Ok(parents.len())
+    Ok(parents)
+}
+
+/// Renders the year of an entry with these parents, and counts the bytes of the plain text.
+fn inherited_year(alloc: Global, parents: Vec<Entry>) -> Result<usize, WorkError> {
+    let nodes = vec![in alloc; year(alloc, DateVariable::Issued)?]?;
+    let style = style(alloc, Vec::new(alloc), nodes)?;
+    let mut entry = Entry::new(alloc, "book", EntryType::Book)?;
+    entry.parents = parents;
+    text_size(alloc, &style, &entry)
+}
+
+/// Makes a chain of `depth` parents, does what the name says, and drops it.
+fn of_parents(alloc: Global, name: &str, depth: usize) -> Result<usize, WorkError> {
+    let parents = ancestors(alloc, depth)?;
+    match name {
+        "parents-copy" => match parents.first() {
+            Some(first) => Ok(first.clone(alloc)?.parents.len()),
+            None => Ok(0),
+        },
+        "parents-render" => inherited_year(alloc, parents),
+        _ => Ok(parents.len()),
+    }
 }
 
 /// A node around others. The name of the work selects its sort.
@@ -120,7 +149,7 @@ pub fn count(alloc: Global, name: &str, depth: usize) -> Result<usize, WorkError
         "tree" | "tree-copy" | "tree-compare" | "tree-write" | "tree-simplify" => {
             of_tree(alloc, name, depth)
         }
-        "parents" => of_parents(alloc, depth),
+        "parents" | "parents-copy" | "parents-render" => of_parents(alloc, name, depth),
         "groups" | "groups-render" | "choices" | "choices-render" | "names" | "names-render" => {
             of_nodes(alloc, name, depth)
         }
