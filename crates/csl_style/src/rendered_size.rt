@@ -145,11 +145,12 @@ impl Style {
     /// counts: the tests up to a branch, and the nodes of that branch. A localized date counts the
     /// parts of the style's date of its form too.
     ///
-    /// Check this before you render with a style from a stranger. It does not count persons and texts:
-    /// limit the entry and the style's file too. The function allocates nothing. Its number of steps
-    /// grows with the smaller of the size of the layout and `all`, and its stack with the smaller of the
-    /// depth and its limit. Forty macros that each call the next in two branches have a small `size`,
-    /// but `all` has to be above 2^40.
+    /// Check this before you render with a style from a stranger. It does not count locales, texts and
+    /// what an entry holds: limit the style's file and the entry too. The function allocates nothing.
+    /// Its number of steps grows with the smaller of the size of the layout and `all`, times the
+    /// locales and dates that the lookup of a localized date goes through, and its stack with the
+    /// smaller of the depth and its limit. Forty macros that each call the next in two branches have a
+    /// small `size`, but `all` has to be above 2^40.
     pub fn rendered_within(&self, layout: &Layout, size: u64, all: u64, depth: usize) -> bool
         ensures within { IsTrue result → (rendered_size self.now.locales
             (expand_layout (macro_env self.now) (view_layout layout.now)) ≤ size)
