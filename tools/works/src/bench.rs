@@ -13,6 +13,7 @@ mod rows;
 mod strangers;
 pub mod styles;
 mod tree;
+mod whole;
 
 use crate::error::WorkError;
 use std::alloc::Global;
@@ -57,6 +58,7 @@ pub fn count(alloc: Global, name: &str, size: usize) -> Result<usize, WorkError>
         "bibliography" => bibliography::bibliography(alloc, size),
         "bibliography_simplified" => bibliography::bibliography_simplified(alloc, size),
         "full_note" => full_note::full_note(alloc, size),
+        "whole" => whole::whole(alloc, size),
         "doubling" => nested::doubling(alloc, size),
         "doubling_named" => nested::doubling_named(alloc, size),
         "doubling_size" => nested::doubling_size(alloc, size),

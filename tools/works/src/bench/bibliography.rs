@@ -167,7 +167,7 @@ static MACROS: [Row; 21] = [
 ];
 
 /// The style of these macros.
-fn style(alloc: Global) -> Result<Style, WorkError> {
+pub fn style(alloc: Global) -> Result<Style, WorkError> {
     style_of(alloc, &MACROS, "entry")
 }
 
