@@ -1,30 +1,62 @@
--- A walk over a style adds what it names to a set (`named_set`).
-use Rattle.std.specs.Prelude.{◌≡◌, ℕ, true, List, Option}
-use Rattle.std.specs.BTreeSet.{BTreeSet, contains}
-use Rattle.std.specs.Cmp.Lexicographic.{slice_cmp}
-use Rattle.std.specs.Ordering.{nat_cmp}
-use Rattle.std.specs.declared.cmp.Ordering.{Ordering}
-use denote.Bor.{Bor}
-use Rattle.csl_elements.specs.NamedSet.{NamedSet, named_union}
+-- What nodes name one by one (`Named`). A walk through all nodes of a layout (`AllNodes`) adds what each
+-- of them names itself. Where a macro is called for the first time, the walk marks its place and goes
+-- through its nodes too. Only private contracts cite these.
+use Rattle.std.specs.Prelude.{◌≡◌, ℕ, ◌<◌, List, [], ◌∷◌, length, set, Option, Some, None, Bool, true, Contains}
+use Rattle.csl_elements.specs.NamedSet.{NamedSet, named_union, empty_named_set}
 unfoldable pub use Rattle.csl_elements.specs.NamedSet.{named_set}
-use Rattle.csl_style.specs.Named.{named_in_macro}
-use Rattle.csl_elements.specs.Node.{ExpandedNodes}
-use Rattle.csl_style.specs.Style.{StyleParts}
+use Rattle.csl_elements.specs.declared.element.ChooseBranch.{ChooseBranch}
 use Rattle.csl_elements.specs.declared.named.Named.{Named}
+use Rattle.csl_elements.specs.Node.{Node, text, call, number, label, date, names, choose, group, Nodes, Branches, no_branches, otherwise, branch, ExpandedNodes, expand_nodes}
+use Rattle.csl_elements.specs.View.{Definition, view_branch}
+use Rattle.csl_style.specs.AllNodes.{called_name}
+use Rattle.csl_style.specs.Calls.{children_at, own_calls}
+use Rattle.csl_style.specs.Expansion.{macro_expansion}
+use Rattle.csl_style.specs.GraphReach.{is_marked}
+use Rattle.csl_style.specs.Named.{named_in_target, the_number_or_page, date_if, named_in_names, named_in_tests}
 
--- a walk over a style, with the variables and kinds named so far
-pub record WalkView : Type 0 where
-  pub style : StyleParts
-  pub named : Named
+-- these items are added to those named before
+abbrev pub Adds : NamedSet → Named → Named → Type 0
+Adds ns old new = named_set new ≡ named_union (named_set old) ns
 
--- the walk keeps its style, and adds these items to those named before
-pub record Adds (ns : NamedSet) (old new : WalkView) : Type 0 where
-  pub style : new.style ≡ old.style
-  pub named : named_set new.named ≡ named_union (named_set old.named) ns
+-- the tests of a branch
+abbrev pub named_in_tests_of : ChooseBranch → NamedSet
+named_in_tests_of b = named_in_tests (view_branch b).tests
 
-abbrev pub text_cmp : Bor (List ℕ) → Bor (List ℕ) → Ordering
-text_cmp a b = slice_cmp nat_cmp a.now b.now
+-- the tests of all branches
+abbrev pub named_in_all_tests : Branches → NamedSet
+named_in_all_tests no_branches = empty_named_set
+named_in_all_tests (otherwise ns) = empty_named_set
+named_in_all_tests (branch ts ns bs) = named_union (named_in_tests ts) (named_in_all_tests bs)
 
--- the set includes all that the seen macros name
-abbrev pub Covers : NamedSet → (List ℕ → Option ExpandedNodes) → BTreeSet (Bor (List ℕ)) → Type 0
-Covers ns env seen = (name : Bor (List ℕ)) → contains text_cmp seen name ≡ true → named_union ns (named_in_macro (env name.now)) ≡ ns
+-- what a node names itself, without the nodes inside it and those of the macro that it calls
+abbrev pub named_itself : Node → NamedSet
+named_itself (text t d) = named_in_target t
+named_itself (call name d) = empty_named_set
+named_itself (number n) = the_number_or_page n.variable
+named_itself (label v l) = the_number_or_page v
+named_itself (date d) = date_if d.variable
+named_itself (names n ss) = named_in_names n
+named_itself (choose bs) = named_in_all_tests bs
+named_itself (group delimiter d ns) = empty_named_set
+
+-- ---- the macros that nodes call
+
+-- the nodes that a name stands for, if there is a name
+abbrev pub called_nodes : (List ℕ → Option ExpandedNodes) → Option (List ℕ) → Option ExpandedNodes
+called_nodes env None = None
+called_nodes env (Some name) = env name
+
+-- each of the places is marked
+abbrev pub AreMarked : List Bool → List ℕ → Type 0
+AreMarked seen places = (i : ℕ) → Contains places i → is_marked seen i ≡ true
+
+-- a node calls the macro at a place, and these are its nodes
+pub record IsCall (ds : List Definition) (n : Node) (i : ℕ) (body : Nodes) : Type 0 where
+  pub within : i < length ds
+  pub place : own_calls ds (called_name n) ≡ i ∷ []
+  pub nodes : children_at ds i ≡ body
+  pub meaning : called_nodes (macro_expansion ds) (called_name n) ≡ Some (expand_nodes (macro_expansion ds) body)
+
+-- a node calls a macro whose place was not marked before, and these are its nodes
+abbrev pub IsFirstCall : List Definition → Node → Nodes → List Bool → List Bool → Type 0
+IsFirstCall ds n body old new = (i : ℕ) × IsCall ds n i body × (new ≡ set old i true)

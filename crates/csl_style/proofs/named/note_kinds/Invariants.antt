@@ -4,7 +4,4 @@ use Rattle.csl_style.specs.Named.{each_of, the_kind}
 use Rattle.csl_style.proofs.named.note_kinds.Given as goal
 
 abbrev pub invariant-loop-kind : goal.invariant-loop-kind
-invariant-loop-kind l = record {
-  style : l.walk.style ≡ l.fn.walk.style;
-  told : named_union (named_set l.walk.named) (each_of the_kind (drop l.kind-index l.kind-items)) ≡ named_union (named_set l.fn.walk.named) (each_of the_kind l.kind-items);
-}
+invariant-loop-kind l = named_union (named_set l.named) (each_of the_kind (drop l.kind-index l.kind-items)) ≡ named_union (named_set l.fn.named) (each_of the_kind l.kind-items)

@@ -1,4 +1,4 @@
-use Rattle.csl_style.proofs.Walks.{adds_both, tests_out}
+use Rattle.csl_style.proofs.NamedNodes.{adds_both, tests_out}
 use Rattle.csl_style.proofs.named.note_tests.Goals as goal
 
 pub returns : goal.returns

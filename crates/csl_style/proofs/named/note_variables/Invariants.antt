@@ -4,7 +4,4 @@ use Rattle.csl_style.specs.Named.{each_of, the_variable}
 use Rattle.csl_style.proofs.named.note_variables.Given as goal
 
 abbrev pub invariant-loop-v : goal.invariant-loop-v
-invariant-loop-v l = record {
-  style : l.walk.style ≡ l.fn.walk.style;
-  told : named_union (named_set l.walk.named) (each_of the_variable (drop l.v-index l.v-items)) ≡ named_union (named_set l.fn.walk.named) (each_of the_variable l.v-items);
-}
+invariant-loop-v l = named_union (named_set l.named) (each_of the_variable (drop l.v-index l.v-items)) ≡ named_union (named_set l.fn.named) (each_of the_variable l.v-items)
