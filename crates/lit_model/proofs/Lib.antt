@@ -41,3 +41,4 @@ pub mod Depth
 pub mod EntryStep
 pub mod Prefix
 pub mod EntryEqual
+pub mod Theorems

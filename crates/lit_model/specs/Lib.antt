@@ -30,3 +30,4 @@ pub mod Work
 pub mod Roman
 pub mod NumericForm
 pub mod NumericError
+pub mod Laws
