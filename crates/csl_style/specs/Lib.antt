@@ -3,6 +3,7 @@
 pub mod OverCalls
 pub mod Missing
 pub mod MissingTerm
+pub mod FoundTerms
 pub mod Expansion
 pub mod MacroCalls
 pub mod GraphReach

@@ -1,10 +1,14 @@
 -- The terms that a layout *asks for* in itself and in the macros that it reaches (CSL 1.0.2, Terms;
--- Text; Label; Name: and; Et-al; Substitute; Formatting: quotes), in written order, and the first of
--- them that no locale has, in its form or in a form that this falls back to.
+-- Text; Label; Locators; Date; Name: and; Et-al; Substitute; Formatting: quotes), in written order
+-- (`asked_terms`); those of them that no locale has, in their form or in a form that this falls back
+-- to, each once (`missing_terms`); and the first of these (`missing_term`).
 -- - A text of a term asks for the term in its form. A text in quotes asks for the two quotes before
 --   what is inside them: for the inner ones inside an odd number of quotes, else for the outer ones.
--- - A label asks for the term of its variable in its form. A label of the locator asks for the term
---   of a page, the commonest kind of locator: the kind is the cite's.
+-- - A label asks for the term of its variable in its form. The kind of a locator is the cite's, so a
+--   label of the locator asks for the term of each kind but the custom one, which has none.
+-- - A date asks for what each of its parts may need: a year for the two eras, a month, in whose place
+--   a season is written, for the short terms of the four seasons. With a form, its parts are those of
+--   the localized date.
 -- - A names node asks, with a label, for the term of each of its variables in the label's form. It
 --   asks for `and` if its name writes it as a word, by the first of these that sets `and`: its first
 --   name child, the node, each names node in whose substitute it is, from the inside out, and the
@@ -14,32 +18,41 @@
 -- - A names node without children in a substitute asks as it is rendered, with the name, et-al and
 --   label of the names around it.
 -- Every branch counts, chosen or not, and so does every substitute. What is asked for some entries
--- only counts: `and` is asked for where there are two names, and et al. where names are left out,
--- which a cite may do by itself. Dates, numbers and ordinals are not among these terms.
-use Rattle.std.specs.Prelude.{ℕ, Bool, true, false, not, ◌||◌, is_none, List, [], ◌∷◌, map, Option, Some, None, if◌then◌else◌}
-use Rattle.std.specs.Option.{option_or}
+-- only counts: `and` is asked for where there are two names, et al. where names are left out, which a
+-- cite may do by itself, and an era beside early years. Months, which print as numbers, the delimiter
+-- of page ranges, numbers and ordinals are not among these terms.
+use Rattle.std.specs.Prelude.{ℕ, Bool, true, false, not, ◌||◌, ◌&&◌, is_none, List, [], ◌∷◌, ◌++◌, map, flat_map, filter, find, Option, Some, None, if◌then◌else◌}
+use Rattle.std.specs.List.{fold, list_any}
 use denote.Enum.Bare.{sameb}
+use Rattle.csl_common.specs.declared.season.Season.TheVariants.{Spring, Summer, Autumn, Winter}
 use Rattle.csl_elements.specs.contracts.taxonomy.NumberVariable.{the_type as the_number}
+use Rattle.csl_elements.specs.contracts.term.TermForm.{the_type as the_form}
+use Rattle.csl_elements.specs.declared.date.Date.{Date}
+use Rattle.csl_elements.specs.declared.date.DateForm.{DateForm}
+use Rattle.csl_elements.specs.declared.date.DatePartName.{DatePartName}
+use Rattle.csl_elements.specs.declared.date.DatePartName.TheVariants.{Day, Month, Year}
 use Rattle.csl_elements.specs.declared.element.Layout.{Layout}
 use Rattle.csl_elements.specs.declared.locale.Locale.{Locale}
 use Rattle.csl_elements.specs.declared.names.NameAnd.{NameAnd}
 use Rattle.csl_elements.specs.declared.names.NameAnd.TheVariants as and
-use Rattle.csl_elements.specs.declared.taxonomy.Locator.TheVariants.{Page}
+use Rattle.csl_elements.specs.declared.taxonomy.Locator.{Locator as LocatorKind}
+use Rattle.csl_elements.specs.declared.taxonomy.Locator.TheVariants as kind
 use Rattle.csl_elements.specs.declared.taxonomy.NameVariable.{NameVariable}
 use Rattle.csl_elements.specs.declared.taxonomy.NumberOrPageVariable.{NumberOrPageVariable}
 use Rattle.csl_elements.specs.declared.taxonomy.NumberOrPageVariable.TheVariants as number_or_page
 use Rattle.csl_elements.specs.declared.taxonomy.NumberVariable.TheVariants.{Locator}
 use Rattle.csl_elements.specs.declared.term.OtherTerm.{OtherTerm}
-use Rattle.csl_elements.specs.declared.term.OtherTerm.TheVariants.{And, EtAl, OpenQuote, CloseQuote, OpenInnerQuote, CloseInnerQuote}
+use Rattle.csl_elements.specs.declared.term.OtherTerm.TheVariants.{And, EtAl, Ad, Bc, OpenQuote, CloseQuote, OpenInnerQuote, CloseInnerQuote, Season}
 use Rattle.csl_elements.specs.declared.term.Term.{Term}
 use Rattle.csl_elements.specs.declared.term.Term.TheVariants as terms
 use Rattle.csl_elements.specs.declared.term.TermForm.{TermForm}
-use Rattle.csl_elements.specs.declared.term.TermForm.TheVariants.{Long}
+use Rattle.csl_elements.specs.declared.term.TermForm.TheVariants.{Long, Short}
+use Rattle.csl_elements.specs.Date.{date_in_form}
 use Rattle.csl_elements.specs.Locale.{terms_of}
 use Rattle.csl_elements.specs.Names.{NameNode, EtAlNode, LabelNode, NamesLabel, NamesNode, first_name, shorthand_expansion}
-use Rattle.csl_elements.specs.Node.{Target, of_variable, of_term, of_value, ExpandedNode, expanded_text, expanded_macro, unknown_macro, expanded_number, expanded_label, expanded_date, expanded_names, shorthand, expanded_choose, expanded_group, ExpandedNodes, no_expanded_nodes, expanded_node, ExpandedBranches, no_expanded_branches, expanded_otherwise, expanded_branch, ExpandedSubstitutes, no_expanded_substitutes, expanded_substitute, expand_substitute_nodes, expand_layout}
-use Rattle.csl_elements.specs.Term.{term_text}
-use Rattle.csl_elements.specs.View.{NamesChildView, a_name, an_et_al, a_label, a_substitute, view_layout}
+use Rattle.csl_elements.specs.Node.{DateNode, DatePartNode, Target, of_variable, of_term, of_value, ExpandedNode, expanded_text, expanded_macro, unknown_macro, expanded_number, expanded_label, expanded_date, expanded_names, shorthand, expanded_choose, expanded_group, ExpandedNodes, no_expanded_nodes, expanded_node, ExpandedBranches, no_expanded_branches, expanded_otherwise, expanded_branch, ExpandedSubstitutes, no_expanded_substitutes, expanded_substitute, expand_substitute_nodes, expand_layout}
+use Rattle.csl_elements.specs.Term.{term_text, same_term}
+use Rattle.csl_elements.specs.View.{NamesChildView, a_name, an_et_al, a_label, a_substitute, view_date, view_layout}
 use Rattle.csl_style.specs.declared.missing_term.Around.{Around}
 use Rattle.csl_style.specs.declared.style.settings.Scope.TheVariants.{Citation, Bibliography}
 use Rattle.csl_style.specs.declared.style.settings.StyleSettings.{StyleSettings}
@@ -55,36 +68,57 @@ AskedTerm = Term × TermForm
 abbrev pub word : OtherTerm → AskedTerm
 word t = (terms.Other t, Long)
 
--- no locale has the term in its form or in a form that this falls back to
-abbrev pub is_missing : List Locale → AskedTerm → Bool
-is_missing ls t = is_none (term_text (map terms_of ls) t.0 t.1 false)
+-- ---- texts, labels and dates
 
-unfoldable pub if_missing : List Locale → AskedTerm → Option AskedTerm
-if_missing ls t = if is_missing ls t then Some t else None
+abbrev pub asked_in_target : Target → List AskedTerm
+asked_in_target (of_variable v form) = []
+asked_in_target (of_term t form plural) = (t, form) ∷ []
+asked_in_target (of_value bs) = []
 
--- ---- the first missing term of texts and labels
+abbrev pub asked_in_two_quotes : Bool → List AskedTerm
+asked_in_two_quotes in_quotes = if in_quotes then word OpenInnerQuote ∷ word CloseInnerQuote ∷ [] else word OpenQuote ∷ word CloseQuote ∷ []
 
-abbrev pub missing_in_target : List Locale → Target → Option AskedTerm
-missing_in_target ls (of_variable v form) = None
-missing_in_target ls (of_term t form plural) = if_missing ls (t, form)
-missing_in_target ls (of_value bs) = None
+-- by the quotes of a text, if it has them
+abbrev pub asked_in_quotes : Bool → Bool → List AskedTerm
+asked_in_quotes quotes in_quotes = if quotes then asked_in_two_quotes in_quotes else []
 
-abbrev pub missing_in_pair : List Locale → OtherTerm → OtherTerm → Option AskedTerm
-missing_in_pair ls opening closing = option_or (if_missing ls (word opening)) (if_missing ls (word closing))
+-- the kinds of locators that have a term
+unfoldable pub kinds_with_term : List LocatorKind
+kinds_with_term =
+    kind.Act ∷ kind.Appendix ∷ kind.Book ∷ kind.Canon ∷ kind.Chapter ∷ kind.Column ∷ kind.Equation ∷ kind.Figure ∷ kind.Folio
+    ∷ kind.Issue ∷ kind.Line ∷ kind.Note ∷ kind.Number ∷ kind.Opus ∷ kind.Page ∷ kind.Paragraph ∷ kind.Part ∷ kind.Rule
+    ∷ kind.Scene ∷ kind.Section ∷ kind.SubVerbo ∷ kind.Supplement ∷ kind.Table ∷ kind.Timestamp ∷ kind.Verse ∷ kind.Version
+    ∷ kind.Volume ∷ []
 
-abbrev pub missing_in_two_quotes : List Locale → Bool → Option AskedTerm
-missing_in_two_quotes ls in_quotes = if in_quotes then missing_in_pair ls OpenInnerQuote CloseInnerQuote else missing_in_pair ls OpenQuote CloseQuote
+-- the term of each kind, in a form
+abbrev pub kind_terms : TermForm → List LocatorKind → List AskedTerm
+kind_terms form kinds = map (λ k. (terms.Locator k, form)) kinds
 
--- of the quotes of a text, if it has them
-abbrev pub missing_in_quotes : List Locale → Bool → Bool → Option AskedTerm
-missing_in_quotes ls quotes in_quotes = if quotes then missing_in_two_quotes ls in_quotes else None
+abbrev pub asked_in_label : NumberOrPageVariable → TermForm → List AskedTerm
+asked_in_label (number_or_page.Number v) form = if sameb the_number v Locator then kind_terms form kinds_with_term else (terms.Number v, form) ∷ []
+asked_in_label (number_or_page.Page v) form = (terms.Page v, form) ∷ []
 
--- the term of a label of the variable
-abbrev pub label_term : NumberOrPageVariable → Term
-label_term (number_or_page.Number v) = if sameb the_number v Locator then terms.Locator Page else terms.Number v
-label_term (number_or_page.Page v) = terms.Page v
+abbrev pub asked_in_part : DatePartName → List AskedTerm
+asked_in_part Day = []
+asked_in_part Month = (terms.Other (Season Spring), Short) ∷ (terms.Other (Season Summer), Short) ∷ (terms.Other (Season Autumn), Short) ∷ (terms.Other (Season Winter), Short) ∷ []
+asked_in_part Year = word Ad ∷ word Bc ∷ []
 
--- ---- the first missing term of names
+abbrev pub asked_in_parts : List DatePartNode → List AskedTerm
+asked_in_parts ps = flat_map (λ p. asked_in_part p.name) ps
+
+abbrev pub asked_in_localized : Option Date → List AskedTerm
+asked_in_localized None = []
+asked_in_localized (Some d) = asked_in_parts (view_date d).date_part
+
+-- by the parts of a date of this form, or of one without a form
+abbrev pub asked_in_form : List Locale → List DatePartNode → Option DateForm → List AskedTerm
+asked_in_form ls own None = asked_in_parts own
+asked_in_form ls own (Some form) = asked_in_localized (date_in_form ls form)
+
+abbrev pub asked_in_date : List Locale → DateNode → List AskedTerm
+asked_in_date ls d = asked_in_form ls d.date_part d.form
+
+-- ---- names
 
 -- whether `and` is written as a word: by the option if it is set, else as inherited
 abbrev pub writes_and : Option NameAnd → Bool → Bool
@@ -96,8 +130,8 @@ abbrev pub and_of_name : Option NameNode → Option NameAnd
 and_of_name None = None
 and_of_name (Some n) = n.options.and
 
-abbrev pub missing_in_and : List Locale → Bool → Option AskedTerm
-missing_in_and ls writes = if writes then if_missing ls (word And) else None
+abbrev pub asked_in_and : Bool → List AskedTerm
+asked_in_and writes = if writes then word And ∷ [] else []
 
 abbrev pub et_al_term : Option EtAlNode → OtherTerm
 et_al_term None = EtAl
@@ -109,26 +143,20 @@ label_on behind None = None
 label_on true (Some l) = if l.is_after then Some l.label else None
 label_on false (Some l) = if l.is_after then None else Some l.label
 
--- of labels of these variables in a form
-abbrev pub missing_in_labels : List Locale → TermForm → List NameVariable → Option AskedTerm
-missing_in_labels ls form [] = None
-missing_in_labels ls form (v ∷ vs) = option_or (if_missing ls (terms.Name v, form)) (missing_in_labels ls form vs)
+-- by a label of these variables, if there is one
+abbrev pub asked_in_names_label : Option LabelNode → List NameVariable → List AskedTerm
+asked_in_names_label None vs = []
+asked_in_names_label (Some l) vs = map (λ v. (terms.Name v, l.form)) vs
 
--- of a label of these variables, if there is one
-abbrev pub missing_in_label : List Locale → Option LabelNode → List NameVariable → Option AskedTerm
-missing_in_label ls None vs = None
-missing_in_label ls (Some l) vs = missing_in_labels ls l.form vs
-
--- of names without their substitutes; `inherited` is whether they write `and` as a word unless they
+-- by names without their substitutes; `inherited` is whether they write `and` as a word unless they
 -- set otherwise
-abbrev pub missing_in_parts : List Locale → Bool → NamesNode → Option AskedTerm
-missing_in_parts ls inherited n =
-    option_or (missing_in_label ls (label_on false n.label) n.variables)
-    (option_or (missing_in_and ls (writes_and (and_of_name (first_name n)) (writes_and n.options.and inherited)))
-    (option_or (if_missing ls (word (et_al_term n.et_al)))
-    (missing_in_label ls (label_on true n.label) n.variables)))
+abbrev pub asked_in_names : Bool → NamesNode → List AskedTerm
+asked_in_names inherited n =
+    asked_in_names_label (label_on false n.label) n.variables
+    ++ (asked_in_and (writes_and (and_of_name (first_name n)) (writes_and n.options.and inherited))
+    ++ (word (et_al_term n.et_al) ∷ asked_in_names_label (label_on true n.label) n.variables))
 
--- ---- the first missing term of nodes, with all macros expanded, by what is around them
+-- ---- nodes, with all macros expanded, by what is around them
 
 -- inside a text, in quotes or not
 abbrev pub inside_text : Bool → Around → Around
@@ -139,39 +167,39 @@ abbrev pub inside_names : NamesNode → Around → Around
 inside_names n a = record { writes_and = writes_and n.options.and a.writes_and; in_quotes = a.in_quotes }
 
 abbrev mutual
-  pub missing_in_node : List Locale → Around → ExpandedNode → Option AskedTerm
-  missing_in_node ls a (expanded_text t d) = option_or (missing_in_quotes ls d.quotes a.in_quotes) (missing_in_target ls t)
-  missing_in_node ls a (expanded_macro fs d) = option_or (missing_in_quotes ls d.quotes a.in_quotes) (missing_in_nodes ls (inside_text d.quotes a) fs)
-  missing_in_node ls a unknown_macro = None
-  missing_in_node ls a (expanded_number n) = None
-  missing_in_node ls a (expanded_label v l) = if_missing ls (label_term v, l.form)
-  missing_in_node ls a (expanded_date d) = None
-  missing_in_node ls a (expanded_names n is) = option_or (missing_in_parts ls a.writes_and n) (missing_in_substitutes ls (inside_names n a) is)
-  missing_in_node ls a (shorthand written n) = missing_in_parts ls a.writes_and n
-  missing_in_node ls a (expanded_choose cs) = missing_in_branches ls a cs
-  missing_in_node ls a (expanded_group delimiter d fs) = missing_in_nodes ls a fs
+  pub asked_in_node : List Locale → Around → ExpandedNode → List AskedTerm
+  asked_in_node ls a (expanded_text t d) = asked_in_quotes d.quotes a.in_quotes ++ asked_in_target t
+  asked_in_node ls a (expanded_macro fs d) = asked_in_quotes d.quotes a.in_quotes ++ asked_in_nodes ls (inside_text d.quotes a) fs
+  asked_in_node ls a unknown_macro = []
+  asked_in_node ls a (expanded_number n) = []
+  asked_in_node ls a (expanded_label v l) = asked_in_label v l.form
+  asked_in_node ls a (expanded_date d) = asked_in_date ls d
+  asked_in_node ls a (expanded_names n is) = asked_in_names a.writes_and n ++ asked_in_substitutes ls (inside_names n a) is
+  asked_in_node ls a (shorthand written n) = asked_in_names a.writes_and n
+  asked_in_node ls a (expanded_choose cs) = asked_in_branches ls a cs
+  asked_in_node ls a (expanded_group delimiter d fs) = asked_in_nodes ls a fs
 
-  pub missing_in_nodes : List Locale → Around → ExpandedNodes → Option AskedTerm
-  missing_in_nodes ls a no_expanded_nodes = None
-  missing_in_nodes ls a (expanded_node f fs) = option_or (missing_in_node ls a f) (missing_in_nodes ls a fs)
+  pub asked_in_nodes : List Locale → Around → ExpandedNodes → List AskedTerm
+  asked_in_nodes ls a no_expanded_nodes = []
+  asked_in_nodes ls a (expanded_node f fs) = asked_in_node ls a f ++ asked_in_nodes ls a fs
 
   -- every branch, chosen or not
-  pub missing_in_branches : List Locale → Around → ExpandedBranches → Option AskedTerm
-  missing_in_branches ls a no_expanded_branches = None
-  missing_in_branches ls a (expanded_otherwise fs) = missing_in_nodes ls a fs
-  missing_in_branches ls a (expanded_branch ts fs cs) = option_or (missing_in_nodes ls a fs) (missing_in_branches ls a cs)
+  pub asked_in_branches : List Locale → Around → ExpandedBranches → List AskedTerm
+  asked_in_branches ls a no_expanded_branches = []
+  asked_in_branches ls a (expanded_otherwise fs) = asked_in_nodes ls a fs
+  asked_in_branches ls a (expanded_branch ts fs cs) = asked_in_nodes ls a fs ++ asked_in_branches ls a cs
 
   -- every substitute, also those that are never rendered
-  pub missing_in_substitutes : List Locale → Around → ExpandedSubstitutes → Option AskedTerm
-  missing_in_substitutes ls a no_expanded_substitutes = None
-  missing_in_substitutes ls a (expanded_substitute fs is) = option_or (missing_in_nodes ls a fs) (missing_in_substitutes ls a is)
+  pub asked_in_substitutes : List Locale → Around → ExpandedSubstitutes → List AskedTerm
+  asked_in_substitutes ls a no_expanded_substitutes = []
+  asked_in_substitutes ls a (expanded_substitute fs is) = asked_in_nodes ls a fs ++ asked_in_substitutes ls a is
 
--- in a child of names as written; only a substitute asks; only private contracts cite it
-abbrev pub missing_in_child : List Locale → (List ℕ → Option ExpandedNodes) → NamesNode → Around → NamesChildView → Option AskedTerm
-missing_in_child ls env original a (a_name n) = None
-missing_in_child ls env original a (an_et_al e) = None
-missing_in_child ls env original a (a_label l) = None
-missing_in_child ls env original a (a_substitute ns) = missing_in_nodes ls a (expand_substitute_nodes env original ns)
+-- by a child of names as written; only a substitute asks; only private contracts cite it
+abbrev pub asked_in_child : List Locale → (List ℕ → Option ExpandedNodes) → NamesNode → Around → NamesChildView → List AskedTerm
+asked_in_child ls env original a (a_name n) = []
+asked_in_child ls env original a (an_et_al e) = []
+asked_in_child ls env original a (a_label l) = []
+asked_in_child ls env original a (a_substitute ns) = asked_in_nodes ls a (expand_substitute_nodes env original ns)
 
 -- a child of a substitute of names, which is `f` unless it is names without children; only private
 -- contracts cite it
@@ -188,5 +216,31 @@ around_layout s = record {
   in_quotes = false;
 }
 
+abbrev pub asked_terms : StyleParts → Layout → List AskedTerm
+asked_terms s l = asked_in_nodes s.locales (around_layout s.settings) (expand_layout (macro_env s) (view_layout l)).elements
+
+-- ---- which of them are missing
+
+-- no locale has the term in its form or in a form that this falls back to
+abbrev pub is_missing : List Locale → AskedTerm → Bool
+is_missing ls t = is_none (term_text (map terms_of ls) t.0 t.1 false)
+
+-- the term is in the list, in this form
+abbrev pub has_asked : AskedTerm → List AskedTerm → Bool
+has_asked t ts = list_any (λ u. same_term u.0 t.0 && sameb the_form u.1 t.1) ts
+
+-- the list, and at its end the term if it is not in it
+abbrev pub with_asked : List AskedTerm → AskedTerm → List AskedTerm
+with_asked ts t = if has_asked t ts then ts else ts ++ t ∷ []
+
+-- each term once, in the order of the list
+abbrev pub each_once : List AskedTerm → List AskedTerm
+each_once ts = fold with_asked [] ts
+
+-- the asked terms that no locale has
+abbrev pub missing_terms : StyleParts → Layout → List AskedTerm
+missing_terms s l = each_once (filter (is_missing s.locales) (asked_terms s l))
+
+-- the first of them
 abbrev pub missing_term : StyleParts → Layout → Option AskedTerm
-missing_term s l = missing_in_nodes s.locales (around_layout s.settings) (expand_layout (macro_env s) (view_layout l)).elements
+missing_term s l = find (is_missing s.locales) (asked_terms s l)

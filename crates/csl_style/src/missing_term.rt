@@ -1,20 +1,27 @@
-//! The search for a term that a layout asks for and that no locale has (CSL 1.0.2, Terms; Text;
-//! Label; Name: and; Et-al; Formatting: quotes).
+//! The terms that a layout asks for and that no locale has (CSL 1.0.2, Terms; Text; Label; Locators;
+//! Date; Name: and; Et-al; Formatting: quotes).
 
-ghost use Rattle.std.specs.Prelude.{◌≡◌, option_map};
+ghost use Rattle.std.specs.Prelude.{◌≡◌, [], ◌∷◌, map, Some, IfOk, IfSome, option_map, slice_get};
+ghost use Rattle.std.specs.Option.{option_or};
 ghost use Rattle.csl_elements.specs.Names.{NamesNode, first_name, view_label};
-ghost use Rattle.csl_elements.specs.NamesParts.{names_node, parts_node, placed_label};
+ghost use Rattle.csl_elements.specs.NamesParts.{names_node, parts_node};
 ghost use Rattle.csl_elements.specs.Node.{ExpandedNode, as_substitute_child, expand, expand_nodes, expand_substitute_nodes};
-ghost use Rattle.csl_elements.specs.View.{view_node, view_nodes, view_names, view_child, view_choose, view_text};
+ghost use Rattle.csl_elements.specs.View.{view_node, view_nodes, view_names, view_child, view_choose, view_date, view_date_part, view_text};
+ghost use Rattle.csl_elements.specs.declared.term.OtherTerm.TheVariants as others;
+ghost use Rattle.csl_elements.specs.declared.term.Term.TheVariants as terms;
+ghost use Rattle.csl_elements.specs.declared.term.TermForm.TheVariants as forms;
 ghost use Rattle.csl_style.specs.Expanded.{macro_env};
-ghost use Rattle.csl_style.specs.MissingTerm.{word, is_missing, if_missing, missing_in_pair, missing_in_two_quotes, missing_in_quotes, label_term, writes_and, and_of_name, missing_in_and, et_al_term, label_on, missing_in_labels, missing_in_label, missing_in_parts, inside_text, inside_names, missing_in_node, missing_in_nodes, missing_in_child, standing_in, around_layout, missing_term};
+ghost use Rattle.csl_style.specs.FoundTerms.{Finds};
+ghost use Rattle.csl_style.specs.MissingTerm.{word, is_missing, with_asked, asked_in_two_quotes, asked_in_quotes, kinds_with_term, kind_terms, asked_in_label, asked_in_part, asked_in_parts, asked_in_date, writes_and, and_of_name, asked_in_and, et_al_term, label_on, asked_in_names_label, asked_in_names, inside_text, inside_names, asked_in_node, asked_in_nodes, asked_in_child, standing_in, around_layout, missing_terms, missing_term};
 
 use crate::style::{Scope, Style};
+use csl_common::{Memory, Season};
 use csl_elements::{
-    Choose, Layout, LayoutRenderingElement, Locator, NameAnd, NameVariable, Names, NamesChild,
-    NamesParts, NumberOrPageVariable, NumberVariable, OtherTerm, Term, TermForm, Text, TextTarget,
-    VariablelessLabel,
+    Choose, Date, DatePart, DatePartName, Label, Layout, LayoutRenderingElement, Locator, NameAnd,
+    NameVariable, Names, NamesChild, NamesParts, NumberOrPageVariable, NumberVariable, OtherTerm,
+    Term, TermForm, Text, TextTarget, VariablelessLabel,
 };
+use std::alloc::Global;
 
 /// What is around a node and decides what the node asks for.
 #[derive(Clone, Copy)]
@@ -32,18 +39,6 @@ fn is_missing(style: &Style, asked: (Term, TermForm)) -> bool
     style.term(asked.0, asked.1, false).is_none()
 }
 
-/// Returns the term if no locale has it.
-#[tactic(auto, unfolding(crate::specs::MissingTerm::if_missing))]
-fn if_missing(style: &Style, asked: (Term, TermForm)) -> Option<(Term, TermForm)>
-    ensures { result ≡ if_missing style.now.locales asked }
-{
-    if is_missing(style, asked) {
-        Some(asked)
-    } else {
-        None
-    }
-}
-
 /// A term that names no variable, in its long form.
 fn word(term: OtherTerm) -> (Term, TermForm)
     ensures { result ≡ word term }
@@ -51,55 +46,197 @@ fn word(term: OtherTerm) -> (Term, TermForm)
     (Term::Other(term), TermForm::Long)
 }
 
-/// The first missing term of two quotes.
-fn missing_in_pair(
-    style: &Style,
-    opening: OtherTerm,
-    closing: OtherTerm,
-) -> Option<(Term, TermForm)>
-    ensures { result ≡ missing_in_pair style.now.locales opening closing }
+/// A list with a term at its end, unless the term is in it. `None` if memory ran out.
+fn with_asked(
+    mut terms: Vec<(Term, TermForm)>,
+    asked: (Term, TermForm),
+) -> Option<Vec<(Term, TermForm)>>
+    ensures { IfSome result (λ all. all.items ≡ with_asked terms.items asked) }
 {
-    if let Some(missing) = if_missing(style, word(opening)) {
-        return Some(missing);
+    if !terms.contains(&asked) && terms.push(asked).is_err() {
+        return None;
     }
-    if_missing(style, word(closing))
+    Some(terms)
 }
 
-/// The first missing term of two quotes: the inner ones if `in_quotes`.
-fn missing_in_two_quotes(style: &Style, in_quotes: bool) -> Option<(Term, TermForm)>
-    ensures { result ≡ missing_in_two_quotes style.now.locales in_quotes }
+/// The missing terms that a walk has found so far.
+#[derive(Drop)]
+struct Found {
+    /// The first of them.
+    first: Option<(Term, TermForm)>,
+    /// All of them, each once. `None` if they are not kept, or if memory ran out.
+    all: Option<Vec<(Term, TermForm)>>,
+}
+
+impl Found {
+    /// Adds a missing term.
+    fn add(&mut self, missing: (Term, TermForm))
+        ensures first { self.new.first ≡ option_or self.old.first (Some missing) }
+        ensures all { IfSome self.new.all (λ now. Some now.items
+            ≡ option_map (λ before. with_asked before.items missing) self.old.all) }
+    {
+        if self.first.is_none() {
+            self.first = Some(missing);
+        }
+        self.all = match self.all.take() {
+            Some(terms) => with_asked(terms, missing),
+            None => None,
+        };
+    }
+
+    /// Asks for a term, and adds it if no locale has it.
+    fn ask(&mut self, style: &Style, asked: (Term, TermForm))
+        ensures { Finds style.now.locales (asked ∷ []) self.old self.new }
+    {
+        if is_missing(style, asked) {
+            self.add(asked);
+        }
+    }
+
+    /// Asks for terms, one after the other.
+    fn ask_all(&mut self, style: &Style, asked: &[(Term, TermForm)])
+        ensures { Finds style.now.locales asked.now self.old self.new }
+    {
+        for term in asked {
+            self.ask(style, *term);
+        }
+    }
+}
+
+/// Asks for two quotes: for the inner ones if `in_quotes`.
+fn ask_two_quotes(found: &mut Found, style: &Style, in_quotes: bool)
+    ensures { Finds style.now.locales (asked_in_two_quotes in_quotes) found.old found.new }
 {
     if in_quotes {
-        missing_in_pair(style, OtherTerm::OpenInnerQuote, OtherTerm::CloseInnerQuote)
+        let quotes = [
+            word(OtherTerm::OpenInnerQuote),
+            word(OtherTerm::CloseInnerQuote),
+        ];
+        found.ask_all(style, &quotes)
     } else {
-        missing_in_pair(style, OtherTerm::OpenQuote, OtherTerm::CloseQuote)
+        let quotes = [word(OtherTerm::OpenQuote), word(OtherTerm::CloseQuote)];
+        found.ask_all(style, &quotes)
     }
 }
 
-/// The first missing term of the quotes of a text, if it has them.
-fn missing_in_quotes(style: &Style, quotes: bool, in_quotes: bool) -> Option<(Term, TermForm)>
-    ensures { result ≡ missing_in_quotes style.now.locales quotes in_quotes }
+/// Asks for the quotes of a text, if it has them.
+fn ask_quotes(found: &mut Found, style: &Style, quotes: bool, in_quotes: bool)
+    ensures { Finds style.now.locales (asked_in_quotes quotes in_quotes) found.old found.new }
 {
     if quotes {
-        missing_in_two_quotes(style, in_quotes)
-    } else {
-        None
+        ask_two_quotes(found, style, in_quotes);
     }
 }
 
-/// The term of a label of the variable. The locator has that of a page.
-fn label_term(variable: NumberOrPageVariable) -> Term
-    ensures { result ≡ label_term variable }
+/// Asks for the term of each of these kinds of locators, in a form.
+fn ask_kinds(found: &mut Found, style: &Style, form: TermForm, kinds: &[Locator])
+    ensures { Finds style.now.locales (kind_terms form kinds.now) found.old found.new }
+{
+    for kind in kinds {
+        found.ask(style, (Term::Locator(*kind), form));
+    }
+}
+
+/// Asks for the term of each kind of locator that has one, in a form.
+#[tactic(auto, unfolding(crate::specs::MissingTerm::kinds_with_term))]
+fn ask_all_kinds(found: &mut Found, style: &Style, form: TermForm)
+    ensures { Finds style.now.locales (kind_terms form kinds_with_term) found.old found.new }
+{
+    let kinds = [
+        Locator::Act,
+        Locator::Appendix,
+        Locator::Book,
+        Locator::Canon,
+        Locator::Chapter,
+        Locator::Column,
+        Locator::Equation,
+        Locator::Figure,
+        Locator::Folio,
+        Locator::Issue,
+        Locator::Line,
+        Locator::Note,
+        Locator::Number,
+        Locator::Opus,
+        Locator::Page,
+        Locator::Paragraph,
+        Locator::Part,
+        Locator::Rule,
+        Locator::Scene,
+        Locator::Section,
+        Locator::SubVerbo,
+        Locator::Supplement,
+        Locator::Table,
+        Locator::Timestamp,
+        Locator::Verse,
+        Locator::Version,
+        Locator::Volume,
+    ];
+    ask_kinds(found, style, form, &kinds)
+}
+
+/// Asks for the term of a label. That of the locator asks for the terms of all kinds.
+fn ask_label(found: &mut Found, style: &Style, variable: NumberOrPageVariable, form: TermForm)
+    ensures { Finds style.now.locales (asked_in_label variable form) found.old found.new }
 {
     match variable {
         NumberOrPageVariable::Number(variable) => {
             if variable == NumberVariable::Locator {
-                Term::Locator(Locator::Page)
+                ask_all_kinds(found, style, form)
             } else {
-                Term::Number(variable)
+                found.ask(style, (Term::Number(variable), form))
             }
         }
-        NumberOrPageVariable::Page(variable) => Term::Page(variable),
+        NumberOrPageVariable::Page(variable) => found.ask(style, (Term::Page(variable), form)),
+    }
+}
+
+/// The short term of a season.
+fn season(season: Season) -> (Term, TermForm)
+    ensures { result ≡ (terms.Other (others.Season season), forms.Short) }
+{
+    (Term::Other(OtherTerm::Season(season)), TermForm::Short)
+}
+
+/// Asks for what a part of a date may need: the eras of a year, the seasons in place of a month.
+fn ask_part(found: &mut Found, style: &Style, name: DatePartName)
+    ensures { Finds style.now.locales (asked_in_part name) found.old found.new }
+{
+    match name {
+        DatePartName::Day => {}
+        DatePartName::Month => found.ask_all(
+            style,
+            &[
+                season(Season::Spring),
+                season(Season::Summer),
+                season(Season::Autumn),
+                season(Season::Winter),
+            ],
+        ),
+        DatePartName::Year => { found.ask_all(style, &[word(OtherTerm::Ad), word(OtherTerm::Bc)]) }
+    }
+}
+
+/// Asks for what the parts of a date may need.
+fn ask_parts(found: &mut Found, style: &Style, parts: &[DatePart])
+    ensures { Finds style.now.locales (asked_in_parts (map view_date_part parts.now)) found.old
+        found.new }
+{
+    for part in parts {
+        ask_part(found, style, part.name);
+    }
+}
+
+/// Asks for what a date may need: with a form, the localized date.
+fn ask_date(found: &mut Found, style: &Style, date: &Date)
+    ensures { Finds style.now.locales (asked_in_date style.now.locales (view_date date.now))
+        found.old found.new }
+{
+    match date.form {
+        None => ask_parts(found, style, &date.date_part),
+        Some(form) => match style.localized_date(form) {
+            Some(localized) => ask_parts(found, style, &localized.date_part),
+            None => {}
+        },
     }
 }
 
@@ -131,42 +268,28 @@ fn label_on(parts: NamesParts<'_>, behind: bool) -> Option<&VariablelessLabel>
     }
 }
 
-/// The first missing term of labels of these variables in a form.
-fn missing_in_labels(
-    style: &Style,
-    form: TermForm,
-    variables: &[NameVariable],
-) -> Option<(Term, TermForm)>
-    ensures { result ≡ missing_in_labels style.now.locales form variables.now }
-{
-    for variable in variables {
-        if let Some(missing) = if_missing(style, (Term::Name(*variable), form)) {
-            return Some(missing);
-        }
-    }
-    None
-}
-
-/// The first missing term of a label of these variables, if there is one.
-fn missing_in_label(
+/// Asks for the terms of a label of these variables, if there is one.
+fn ask_names_label(
+    found: &mut Found,
     style: &Style,
     label: Option<&VariablelessLabel>,
     variables: &[NameVariable],
-) -> Option<(Term, TermForm)>
-    ensures { result ≡ missing_in_label style.now.locales
-        (option_map (λ l. view_label l.now) label.entry) variables.now }
+)
+    ensures { Finds style.now.locales (asked_in_names_label
+        (option_map (λ l. view_label l.now) label.entry) variables.now) found.old found.new }
 {
-    match label {
-        Some(label) => missing_in_labels(style, label.form, variables),
-        None => None,
+    if let Some(written) = label {
+        for variable in variables {
+            found.ask(style, (Term::Name(*variable), written.form));
+        }
     }
 }
 
-/// The term `and`, if names write it and no locale has it.
-fn missing_in_and(style: &Style, parts: NamesParts<'_>, inherited: bool) -> Option<(Term, TermForm)>
-    ensures { result ≡ missing_in_and style.now.locales
+/// Asks for `and`, if names write it as a word.
+fn ask_and(found: &mut Found, style: &Style, parts: NamesParts<'_>, inherited: bool)
+    ensures { Finds style.now.locales (asked_in_and
         (writes_and (and_of_name (first_name (parts_node parts.entry)))
-        (writes_and (parts_node parts.entry).options.and inherited)) }
+        (writes_and (parts_node parts.entry).options.and inherited))) found.old found.new }
 {
     let own = writes_and(parts.options.and, inherited);
     let writes = match parts.name() {
@@ -174,9 +297,7 @@ fn missing_in_and(style: &Style, parts: NamesParts<'_>, inherited: bool) -> Opti
         None => own,
     };
     if writes {
-        if_missing(style, word(OtherTerm::And))
-    } else {
-        None
+        found.ask(style, word(OtherTerm::And));
     }
 }
 
@@ -190,24 +311,15 @@ fn et_al_term(parts: NamesParts<'_>) -> OtherTerm
     }
 }
 
-/// The first missing term of names of these parts, without their substitutes.
-fn missing_in_parts(
-    style: &Style,
-    parts: NamesParts<'_>,
-    inherited: bool,
-) -> Option<(Term, TermForm)>
-    ensures { result ≡ missing_in_parts style.now.locales inherited (parts_node parts.entry) }
+/// Asks for the terms of names of these parts, without their substitutes.
+fn ask_names(found: &mut Found, style: &Style, parts: NamesParts<'_>, inherited: bool)
+    ensures { Finds style.now.locales (asked_in_names inherited (parts_node parts.entry)) found.old
+        found.new }
 {
-    if let Some(missing) = missing_in_label(style, label_on(parts, false), parts.variables) {
-        return Some(missing);
-    }
-    if let Some(missing) = missing_in_and(style, parts, inherited) {
-        return Some(missing);
-    }
-    if let Some(missing) = if_missing(style, word(et_al_term(parts))) {
-        return Some(missing);
-    }
-    missing_in_label(style, label_on(parts, true), parts.variables)
+    ask_names_label(found, style, label_on(parts, false), parts.variables);
+    ask_and(found, style, parts, inherited);
+    found.ask(style, word(et_al_term(parts)));
+    ask_names_label(found, style, label_on(parts, true), parts.variables);
 }
 
 impl Around {
@@ -267,178 +379,162 @@ fn childless_names(names: &Names) -> Option<&Names>
     }
 }
 
-/// The first missing term of an element.
+/// Asks for the terms of an element.
 #[cycle(terms)]
-fn missing_in<'s>(
+fn visit<'s>(
+    found: &mut Found,
     style: &'s Style,
     element: &'s LayoutRenderingElement,
     around: Around,
-) -> Option<(Term, TermForm)>
-    ensures { result ≡ missing_in_node style.now.locales around
-        (expand (macro_env style.now) (view_node element.now)) }
+)
+    ensures { Finds style.now.locales (asked_in_node style.now.locales around
+        (expand (macro_env style.now) (view_node element.now))) found.old found.new }
 {
     match element {
-        LayoutRenderingElement::Text(text) => missing_in_text(style, text, around),
+        LayoutRenderingElement::Text(text) => visit_text(found, style, text, around),
         LayoutRenderingElement::Label(label) => {
-            if_missing(style, (label_term(label.variable), label.label.form))
+            ask_label(found, style, label.variable, label.label.form)
         }
-        LayoutRenderingElement::Number(_) | LayoutRenderingElement::Date(_) => None,
-        LayoutRenderingElement::Names(names) => missing_in_names(style, names, around),
-        LayoutRenderingElement::Choose(choose) => missing_in_choose(style, choose, around),
-        LayoutRenderingElement::Group(group) => missing_in_all(style, &group.children, around),
+        LayoutRenderingElement::Number(_) => {}
+        LayoutRenderingElement::Date(date) => ask_date(found, style, date),
+        LayoutRenderingElement::Names(names) => visit_names(found, style, names, around),
+        LayoutRenderingElement::Choose(choose) => visit_choose(found, style, choose, around),
+        LayoutRenderingElement::Group(group) => { visit_all(found, style, &group.children, around) }
     }
 }
 
-/// The first missing term of a list of elements.
+/// Asks for the terms of elements.
 #[cycle(terms)]
-fn missing_in_all<'s>(
+fn visit_all<'s>(
+    found: &mut Found,
     style: &'s Style,
     elements: &'s [LayoutRenderingElement],
     around: Around,
-) -> Option<(Term, TermForm)>
-    ensures { result ≡ missing_in_nodes style.now.locales around
-        (expand_nodes (macro_env style.now) (view_nodes elements.now)) }
+)
+    ensures { Finds style.now.locales (asked_in_nodes style.now.locales around
+        (expand_nodes (macro_env style.now) (view_nodes elements.now))) found.old found.new }
 {
     for element in elements {
-        if let Some(missing) = missing_in(style, element, around) {
-            return Some(missing);
-        }
+        visit(found, style, element, around);
     }
-    None
 }
 
-/// The first missing term of a text, and of the macro that it calls.
+/// Asks for the terms of a text, and of the macro that it calls.
 #[cycle(terms)]
-fn missing_in_text<'s>(style: &'s Style, text: &'s Text, around: Around) -> Option<(Term, TermForm)>
-    ensures { result ≡ missing_in_node style.now.locales around
-        (expand (macro_env style.now) (view_text text.now)) }
+fn visit_text<'s>(found: &mut Found, style: &'s Style, text: &'s Text, around: Around)
+    ensures { Finds style.now.locales (asked_in_node style.now.locales around
+        (expand (macro_env style.now) (view_text text.now))) found.old found.new }
 {
     match &text.target {
         TextTarget::Variable { .. } | TextTarget::Value { .. } => {
-            missing_in_quotes(style, text.quotes, around.in_quotes)
+            ask_quotes(found, style, text.quotes, around.in_quotes);
         }
         TextTarget::Term { term, form, .. } => {
-            if let Some(missing) = missing_in_quotes(style, text.quotes, around.in_quotes) {
-                return Some(missing);
-            }
-            if_missing(style, (*term, *form))
+            ask_quotes(found, style, text.quotes, around.in_quotes);
+            found.ask(style, (*term, *form));
         }
-        TextTarget::Macro { name } => match style.get_macro(name.as_str()) {
-            Some(found) => {
-                if let Some(missing) = missing_in_quotes(style, text.quotes, around.in_quotes) {
-                    return Some(missing);
-                }
-                missing_in_all(style, &found.children, around.inside_text(text.quotes))
+        TextTarget::Macro { name } => {
+            if let Some(called) = style.get_macro(name.as_str()) {
+                ask_quotes(found, style, text.quotes, around.in_quotes);
+                visit_all(
+                    found,
+                    style,
+                    &called.children,
+                    around.inside_text(text.quotes),
+                );
             }
-            None => None,
-        },
+        }
     }
 }
 
-/// The first missing term of names, and of their substitutes.
+/// Asks for the terms of names, and of their substitutes.
 #[cycle(terms)]
-fn missing_in_names<'s>(
-    style: &'s Style,
-    names: &'s Names,
-    around: Around,
-) -> Option<(Term, TermForm)>
-    ensures { result ≡ missing_in_node style.now.locales around
-        (expand (macro_env style.now) (view_names names.now)) }
+fn visit_names<'s>(found: &mut Found, style: &'s Style, names: &'s Names, around: Around)
+    ensures { Finds style.now.locales (asked_in_node style.now.locales around
+        (expand (macro_env style.now) (view_names names.now))) found.old found.new }
 {
     let parts = names.parts();
-    if let Some(missing) = missing_in_parts(style, parts, around.writes_and) {
-        return Some(missing);
-    }
+    ask_names(found, style, parts, around.writes_and);
     let inside = around.inside_names(parts);
     for child in &names.children {
-        if let Some(missing) = missing_in_child(style, child, parts, inside) {
-            return Some(missing);
-        }
+        visit_child(found, style, child, parts, inside);
     }
-    None
 }
 
-/// The first missing term of a child of names. Only a substitute asks here for any.
+/// Asks for the terms of a child of names. Only a substitute asks here for any.
 #[cycle(terms)]
-fn missing_in_child<'s>(
+fn visit_child<'s>(
+    found: &mut Found,
     style: &'s Style,
     child: &'s NamesChild,
     original: NamesParts<'s>,
     around: Around,
-) -> Option<(Term, TermForm)>
-    ensures { result ≡ missing_in_child style.now.locales (macro_env style.now)
-        (parts_node original.entry) around (view_child child.now) }
+)
+    ensures { Finds style.now.locales (asked_in_child style.now.locales (macro_env style.now)
+        (parts_node original.entry) around (view_child child.now)) found.old found.new }
 {
     match child {
-        NamesChild::Name(_) | NamesChild::EtAl(_) | NamesChild::Label(_) => None,
+        NamesChild::Name(_) | NamesChild::EtAl(_) | NamesChild::Label(_) => {}
         NamesChild::Substitute(substitute) => {
-            missing_in_substitute(style, &substitute.children, original, around)
+            visit_substitute(found, style, &substitute.children, original, around)
         }
     }
 }
 
-/// The first missing term of the children of a substitute of names.
+/// Asks for the terms of the children of a substitute of names.
 #[cycle(terms)]
-fn missing_in_substitute<'s>(
+fn visit_substitute<'s>(
+    found: &mut Found,
     style: &'s Style,
     elements: &'s [LayoutRenderingElement],
     original: NamesParts<'s>,
     around: Around,
-) -> Option<(Term, TermForm)>
-    ensures { result ≡ missing_in_nodes style.now.locales around
+)
+    ensures { Finds style.now.locales (asked_in_nodes style.now.locales around
         (expand_substitute_nodes (macro_env style.now) (parts_node original.entry)
-        (view_nodes elements.now)) }
+        (view_nodes elements.now))) found.old found.new }
 {
     for element in elements {
-        if let Some(missing) = missing_in_place(style, element, original, around) {
-            return Some(missing);
-        }
+        visit_place(found, style, element, original, around);
     }
-    None
 }
 
-/// The first missing term of a child of a substitute. Names without children are in the place of
-/// the names around the substitute.
+/// Asks for the terms of a child of a substitute. Names without children are in the place of the
+/// names around the substitute.
 #[cycle(terms)]
-fn missing_in_place<'s>(
+fn visit_place<'s>(
+    found: &mut Found,
     style: &'s Style,
     element: &'s LayoutRenderingElement,
     original: NamesParts<'s>,
     around: Around,
-) -> Option<(Term, TermForm)>
-    ensures { result ≡ missing_in_node style.now.locales around
+)
+    ensures { Finds style.now.locales (asked_in_node style.now.locales around
         (as_substitute_child (parts_node original.entry) (view_node element.now)
-        (expand (macro_env style.now) (view_node element.now))) }
+        (expand (macro_env style.now) (view_node element.now)))) found.old found.new }
 {
     match shorthand(element) {
         Some(names) => {
-            missing_in_parts(style, names.parts_in_place_of(original), around.writes_and)
+            let parts = names.parts_in_place_of(original);
+            ask_names(found, style, parts, around.writes_and)
         }
-        None => missing_in(style, element, around),
+        None => visit(found, style, element, around),
     }
 }
 
-/// The first missing term of the branches of a choice, then of its `otherwise` nodes.
+/// Asks for the terms of the branches of a choice, then of its `otherwise` nodes.
 #[cycle(terms)]
-fn missing_in_choose<'s>(
-    style: &'s Style,
-    choose: &'s Choose,
-    around: Around,
-) -> Option<(Term, TermForm)>
-    ensures { result ≡ missing_in_node style.now.locales around
-        (expand (macro_env style.now) (view_choose choose.now)) }
+fn visit_choose<'s>(found: &mut Found, style: &'s Style, choose: &'s Choose, around: Around)
+    ensures { Finds style.now.locales (asked_in_node style.now.locales around
+        (expand (macro_env style.now) (view_choose choose.now))) found.old found.new }
 {
-    if let Some(missing) = missing_in_all(style, &choose.if_.children, around) {
-        return Some(missing);
-    }
+    visit_all(found, style, &choose.if_.children, around);
     for branch in &choose.else_if {
-        if let Some(missing) = missing_in_all(style, &branch.children, around) {
-            return Some(missing);
-        }
+        visit_all(found, style, &branch.children, around);
     }
     match &choose.otherwise {
-        Some(otherwise) => missing_in_all(style, otherwise, around),
-        None => None,
+        Some(otherwise) => visit_all(found, style, otherwise, around),
+        None => {}
     }
 }
 
@@ -455,24 +551,53 @@ fn around_layout(style: &Style) -> Around
 }
 
 impl Style {
-    /// The first term that a layout asks for and that no locale has, in its form or in a form that
-    /// this falls back to (CSL 1.0.2, Terms). `None` if there is none. A missing term prints
-    /// nothing, so check the locales of a style that you wrote.
+    /// The terms that a layout asks for and that no locale has, in their form or in one that this
+    /// falls back to (CSL 1.0.2, Terms), each once. A missing term prints nothing, and a missing era
+    /// ` AD` or ` BC`, so check the locales of a style that you wrote. Some are meant to be missing:
+    /// CSL's own locales have no noun for authors, nor terms of all kinds of locators. Filter those
+    /// out that you expect.
     ///
     /// The search goes through the layout and the macros that it reaches, in written order. A text
     /// of a term asks for the term; a label for that of its variable; a text in quotes for both
     /// quotes; names for `and`, if they write it as a word, for et al., and for the label of each
-    /// variable. Each branch and each substitute counts, and so does what only some entries need,
-    /// such as `and`. A layout does not tell its scope, so `and` counts if names write it in one of
-    /// the two. A label of the locator asks for the term of a page, because each cite has its own
-    /// kind of locator: ask for other kinds by [`Style::term`]. Months, seasons, eras, ordinals and
-    /// the delimiter of page ranges are not among these terms.
+    /// variable; a year for the eras, and a month for the seasons in its place. Each branch and each
+    /// substitute counts, and so does what only some entries need, such as `and`. A layout does not
+    /// tell its scope, so `and` counts if names write it in one of the two. A label of the locator
+    /// asks for the term of each kind, because each cite has its own. Months, which print as
+    /// numbers, ordinals and the delimiter of page ranges are not among these terms.
     ///
     /// Ask this only of a layout that [`Style::expanded_within`] limits: the number of steps grows
-    /// with the size, and the stack with the depth. The function allocates nothing.
+    /// with the size and with the number of the missing terms, and the stack with the depth.
+    ///
+    /// # Errors
+    /// [`Memory`]: out of memory.
+    pub fn missing_terms(
+        &self,
+        alloc: Global,
+        layout: &Layout,
+    ) -> Result<Vec<(Term, TermForm)>, Memory>
+        ensures list { IfOk result (λ missing. missing.items
+            ≡ missing_terms self.now layout.now) }
+        ensures first { IfOk result (λ missing. slice_get missing.items 0
+            ≡ missing_term self.now layout.now) }
+    {
+        let mut found = Found {
+            first: None,
+            all: Some(Vec::new(alloc)),
+        };
+        visit_all(&mut found, self, &layout.elements, around_layout(self));
+        found.all.ok_or(Memory)
+    }
+
+    /// The first of [`Style::missing_terms`], if there is any. The function allocates nothing.
     pub fn missing_term(&self, layout: &Layout) -> Option<(Term, TermForm)>
         ensures { result ≡ missing_term self.now layout.now }
     {
-        missing_in_all(self, &layout.elements, around_layout(self))
+        let mut found = Found {
+            first: None,
+            all: None,
+        };
+        visit_all(&mut found, self, &layout.elements, around_layout(self));
+        found.first
     }
 }

@@ -9,6 +9,7 @@ mod locale;
 mod many_macros;
 mod missing;
 mod missing_term;
+mod missing_terms;
 mod named;
 mod names;
 mod names_parts;

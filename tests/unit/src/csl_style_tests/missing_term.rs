@@ -1,13 +1,14 @@
-//! The first term that a layout asks for and that no locale of the style has.
+//! The terms that a layout asks for and that no locale of the style has.
 
 use crate::assertions::assert_of;
 use crate::csl_style_tests::notation::{LocaleRows, SILENT, TermRow, branch, layout_of, locales};
 use crate::shared::{alone, put};
 use csl_style::{
-    Choose, ChooseMatch, CslMacro, EtAl, Group, InheritableNameOptions, Label,
-    LayoutRenderingElement, Locator, Name, NameAnd, NameVariable, Names, NamesChild,
-    NumberOrPageVariable, NumberVariable, OtherTerm, PageVariable, StandardVariable, Style,
-    StyleSettings, Substitute, Term, TermForm, Text, TextTarget, Variable, VariablelessLabel,
+    Choose, ChooseMatch, CslMacro, Date, DateForm, DatePart, DatePartName, DateVariable, EtAl,
+    Group, InheritableNameOptions, Label, LayoutRenderingElement, Locator, Name, NameAnd,
+    NameVariable, Names, NamesChild, NumberOrPageVariable, NumberVariable, OtherTerm, PageVariable,
+    StandardVariable, Style, StyleSettings, Substitute, Term, TermForm, Text, TextTarget, Variable,
+    VariablelessLabel,
 };
 use lit_model::LongShortForm;
 use std::alloc::Global;
@@ -15,7 +16,7 @@ use std::process::Abort;
 
 /// A child of a substitute.
 #[derive(Clone, Copy)]
-enum Instead {
+pub(super) enum Instead {
     /// A call of a macro.
     Call(&'static str),
     /// Names without children, and what they set for `and`.
@@ -24,7 +25,7 @@ enum Instead {
 
 /// A child of names.
 #[derive(Clone, Copy)]
-enum Child {
+pub(super) enum Child {
     /// A name, and what it sets for `and`.
     Name(Option<NameAnd>),
     /// An et-al of a term.
@@ -35,7 +36,7 @@ enum Child {
 
 /// A node.
 #[derive(Clone, Copy)]
-enum Piece {
+pub(super) enum Piece {
     /// A text of a term.
     Word(OtherTerm, TermForm),
     /// A text of the title in quotes.
@@ -46,6 +47,8 @@ enum Piece {
     Call(&'static str),
     QuotedCall(&'static str),
     Label(NumberOrPageVariable, TermForm),
+    /// A date of these parts, with a form or not.
+    Date(Option<DateForm>, &'static [DatePartName]),
     /// Names of these variables, what they set for `and`, and their children.
     Names(&'static [NameVariable], Option<NameAnd>, &'static [Child]),
     /// A call of a macro in a group, in each of two branches and in `cs:else`.
@@ -55,18 +58,18 @@ enum Piece {
 
 /// A style with one layout.
 #[derive(Clone, Copy)]
-struct Row {
-    of: &'static str,
+pub(super) struct Row {
+    pub(super) of: &'static str,
     /// What the style sets for `and`: for both scopes, for the citation, for the bibliography.
-    and: (Option<NameAnd>, Option<NameAnd>, Option<NameAnd>),
-    macros: &'static [(&'static str, &'static [Piece])],
-    layout: &'static [Piece],
-    locales: &'static [LocaleRows<'static>],
-    wanted: Option<(Term, TermForm)>,
+    pub(super) and: (Option<NameAnd>, Option<NameAnd>, Option<NameAnd>),
+    pub(super) macros: &'static [(&'static str, &'static [Piece])],
+    pub(super) layout: &'static [Piece],
+    pub(super) locales: &'static [LocaleRows<'static>],
+    pub(super) wanted: Option<(Term, TermForm)>,
 }
 
 /// A layout that asks for nothing.
-const NOTHING: Row = Row {
+pub(super) const NOTHING: Row = Row {
     of: "nothing",
     and: (None, None, None),
     macros: &[],
@@ -75,11 +78,11 @@ const NOTHING: Row = Row {
     wanted: None,
 };
 
-const LONG: TermForm = TermForm::Long;
+pub(super) const LONG: TermForm = TermForm::Long;
 
-const SHORT: TermForm = TermForm::Short;
+pub(super) const SHORT: TermForm = TermForm::Short;
 
-const TEXT: Option<NameAnd> = Some(NameAnd::Text);
+pub(super) const TEXT: Option<NameAnd> = Some(NameAnd::Text);
 
 const SYMBOL: Option<NameAnd> = Some(NameAnd::Symbol);
 
@@ -87,9 +90,11 @@ const EDITOR: &[NameVariable] = &[NameVariable::Editor];
 
 const VOLUME: NumberOrPageVariable = NumberOrPageVariable::Number(NumberVariable::Volume);
 
-const LOCATOR: NumberOrPageVariable = NumberOrPageVariable::Number(NumberVariable::Locator);
+pub(super) const LOCATOR: NumberOrPageVariable = NumberOrPageVariable::Number(
+    NumberVariable::Locator,
+);
 
-const PAGE: NumberOrPageVariable = NumberOrPageVariable::Page(PageVariable::Page);
+pub(super) const PAGE: NumberOrPageVariable = NumberOrPageVariable::Page(PageVariable::Page);
 
 /// The words `and` and `et al.`, both quotes of each kind, and the long terms of the editor and of
 /// the page of a locator.
@@ -138,7 +143,7 @@ const OUTER_QUOTES: LocaleRows<'static> = LocaleRows {
     ..SILENT
 };
 
-const LONG_IN: LocaleRows<'static> = LocaleRows {
+pub(super) const LONG_IN: LocaleRows<'static> = LocaleRows {
     terms: &[(Term::Other(OtherTerm::In), LONG, "word", None, None)],
     ..SILENT
 };
@@ -148,7 +153,7 @@ const SHORT_IN: LocaleRows<'static> = LocaleRows {
     ..SILENT
 };
 
-const IN: Piece = Piece::Word(OtherTerm::In, LONG);
+pub(super) const IN: Piece = Piece::Word(OtherTerm::In, LONG);
 
 static TERMS: [Row; 10] = [
     NOTHING,
@@ -218,8 +223,8 @@ static TERMS: [Row; 10] = [
     },
 ];
 
-static LABELS_AND_QUOTES: [Row; 12] = [
-    // Labels. That of a locator is judged by the term of a page.
+static LABELS_AND_QUOTES: [Row; 11] = [
+    // Labels. That of a locator asks for the terms of all kinds.
     Row {
         of: "a label",
         layout: &[Piece::Label(VOLUME, SHORT)],
@@ -235,16 +240,10 @@ static LABELS_AND_QUOTES: [Row; 12] = [
         ..NOTHING
     },
     Row {
-        of: "a label of the locator",
+        of: "a label of the locator with the term of a page alone",
         layout: &[Piece::Label(LOCATOR, SHORT)],
         locales: &[COMMON],
-        ..NOTHING
-    },
-    Row {
-        of: "a label of the locator without the term of a page",
-        layout: &[Piece::Label(LOCATOR, SHORT)],
-        locales: &[AND],
-        wanted: Some((Term::Locator(Locator::Page), SHORT)),
+        wanted: Some((Term::Locator(Locator::Act), SHORT)),
         ..NOTHING
     },
     // Quotes: the outer ones, and the inner ones in an odd number of quotes.
@@ -597,6 +596,24 @@ fn choice(
     choose.into()
 }
 
+/// A date of these parts.
+fn date(
+    rt: &impl Abort,
+    alloc: Global,
+    form: Option<DateForm>,
+    names: &[DatePartName],
+) -> LayoutRenderingElement {
+    let mut parts = Vec::new(alloc);
+    for name in names {
+        put(rt, &mut parts, DatePart::new(*name));
+    }
+    let date = Date {
+        form,
+        ..Date::new(DateVariable::Issued, parts)
+    };
+    date.into()
+}
+
 /// A text of a term.
 fn term(term: OtherTerm, form: TermForm) -> TextTarget {
     TextTarget::Term {
@@ -623,6 +640,7 @@ fn element(rt: &impl Abort, alloc: Global, row: Piece) -> LayoutRenderingElement
             variable,
             label: label(form),
         }),
+        Piece::Date(form, parts) => date(rt, alloc, form, parts),
         Piece::Names(variables, and, rows) => {
             names(rt, alloc, variables, and, children(rt, alloc, rows))
         }
@@ -652,7 +670,7 @@ fn macros(rt: &impl Abort, alloc: Global, rows: &[(&str, &[Piece])]) -> Vec<CslM
 }
 
 /// The style of a row. Its citation is the layout of the row.
-fn style_of(rt: &impl Abort, alloc: Global, row: &Row) -> Style {
+pub(super) fn style_of(rt: &impl Abort, alloc: Global, row: &Row) -> Style {
     let mut settings = StyleSettings::default();
     settings.names = options(row.and.0);
     settings.citation_names = options(row.and.1);
@@ -668,7 +686,7 @@ fn style_of(rt: &impl Abort, alloc: Global, row: &Row) -> Style {
     .expect(rt, "a style")
 }
 
-fn assert_missing(rt: &impl Abort, alloc: Global, row: &Row) {
+pub(super) fn assert_missing(rt: &impl Abort, alloc: Global, row: &Row) {
     let style = style_of(rt, alloc, row);
     let answer = style.missing_term(style.citation());
     assert_of(rt, &answer, &row.wanted, row.of);

@@ -57,6 +57,8 @@ fn styles() {
     let _: fn(&Style, i32, Option<GrammarGender>) -> Option<&str> = Style::ordinal;
     let _: fn(&Style, DateForm) -> Option<&Date> = Style::localized_date;
     let _: fn(&Style, &Layout) -> Option<(Term, TermForm)> = Style::missing_term;
+    let _: fn(&Style, Global, &Layout) -> Result<Vec<(Term, TermForm)>, Memory> =
+        Style::missing_terms;
     let _: fn(&Style, Scope) -> bool = Style::renders_year_suffix_implicitly;
     let _: fn(&Style, &Layout, u64) -> Option<u64> = Style::expanded_size;
     let _: fn(&Style, &Layout, u64, usize) -> bool = Style::expanded_within;
