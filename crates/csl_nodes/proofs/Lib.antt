@@ -2,6 +2,7 @@ pub mod MadeNothing
 pub mod Dressings
 pub mod SpelledNumbers
 pub mod Readings
+pub mod Outcomes
 mod PaddedNumbers
 mod DigitOrder
 mod KeyOrder

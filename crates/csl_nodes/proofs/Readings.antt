@@ -65,7 +65,7 @@ arms_fall arm.Position r e = falls_to arm.Position arm.Type_ (omega arith) r e
 arms_fall arm.Type_ r e = falls_to arm.Type_ arm.Variable (omega arith) r e
 arms_fall arm.Variable r e = cc
 
-tests_out : (b : ChooseBranch) → tests_of b ≡ (view_branch b).tests
+pub tests_out : (b : ChooseBranch) → tests_of b ≡ (view_branch b).tests
 tests_out b = rw (fold_out-ChooseBranch Node NamesChildView Node BranchView Node Node Nodes element_step child_step choose_step branch_step group_step names_step substitute_step b) refl
 
 -- before the first read, all conditions of a branch remain

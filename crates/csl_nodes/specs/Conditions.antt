@@ -3,6 +3,7 @@
 -- (`conditions`). A match combines them, and a choice takes the nodes of the first branch whose
 -- match holds. Each lookup is silent, and in the long form.
 use Rattle.std.specs.Prelude.{Bool, true, false, not, ◌==◌, List, [], ◌∷◌, ◌++◌, map, length, Option, Some, None, is_some, chars, if◌then◌else◌}
+use Rattle.std.specs.Bool.{beq}
 use Rattle.std.specs.List.{list_all, list_any}
 use denote.Enum.Bare.{sameb}
 use Rattle.lit_model.specs.Chunks.{chunks_text, is_white_space}
@@ -161,6 +162,10 @@ module _ (w : RenderInput) (s : State) (ts : Tests) where
 
   abbrev pub conditions : List Bool
   conditions = conditions_at w s ts arm.Disambiguate ++ of_numbers
+
+-- whether a test comes out so
+abbrev pub has_outcome : Bool → List Bool → Bool
+has_outcome outcome bs = list_any (λ b. beq b outcome) bs
 
 -- ---- branches
 -- A match holds if all, any or none of the list is true. On an empty list all and none hold, and

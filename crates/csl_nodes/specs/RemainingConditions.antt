@@ -1,11 +1,8 @@
 -- The conditions of a branch that an iterator has not read yet, and one step of the iterator: the
 -- next condition, or an error, after which no condition remains.
--- Only contracts of private functions cite `next_arm`, `after_first`, `after_deciding` and
--- `ReadsAt`.
-use Rattle.std.specs.Prelude.{◌≡◌, ℕ, Bool, false, not, List, [], ◌∷◌, ◌++◌, drop, Option, Some, None, option_map, Result, MatchOption, MatchResult, if◌then◌else◌}
+-- Only contracts of private functions cite `next_arm` and `ReadsAt`.
+use Rattle.std.specs.Prelude.{◌≡◌, ℕ, Bool, false, List, [], ◌∷◌, ◌++◌, drop, Option, Some, None, option_map, Result, MatchOption, MatchResult, if◌then◌else◌}
 use Rattle.csl_elements.specs.Node.{Tests}
-use Rattle.csl_elements.specs.declared.element.ChooseMatch.{ChooseMatch}
-use Rattle.csl_elements.specs.declared.element.ChooseMatch.TheVariants as matched
 use Rattle.csl_elements.specs.declared.element.ChooseBranch.{ChooseBranch, out-ChooseBranch}
 use Rattle.csl_entry.specs.Answers.{Answers}
 use Rattle.csl_context.specs.State.{State}
@@ -84,18 +81,6 @@ abbrev pub remaining_conditions : {T : Type 0} → (T → Answers) → BranchCon
 remaining_conditions answers it =
     if it.ended then []
     else conditions_from (render_input answers (context_of it)) (context_of it).state (tests_of it.branch.now) it.pos it.index
-
--- the conditions after the first that passes the test; none if none passes
-abbrev pub after_first : (Bool → Bool) → List Bool → List Bool
-after_first p [] = []
-after_first p (b ∷ bs) = if p b then bs else after_first p bs
-
--- A match reads up to the condition that decides it: for All the first that does not hold, for Any
--- and None the first that does.
-abbrev pub after_deciding : ChooseMatch → List Bool → List Bool
-after_deciding matched.All bs = after_first not bs
-after_deciding matched.Any bs = after_first (λ b. b) bs
-after_deciding matched.None bs = after_first (λ b. b) bs
 
 -- the result of reading a place: nothing if it has no test, else the test's boolean or an error
 abbrev pub ReadsAt : {T : Type 0} → ContextView T → Option Bool → Option (Result Bool RenderError) → Type 0

@@ -7,6 +7,7 @@
 
 mod boxes;
 mod branch_conditions;
+mod branch_tests;
 mod condition;
 mod date;
 mod date_key;
@@ -26,6 +27,7 @@ mod text;
 mod usage;
 
 pub use branch_conditions::{BranchConditionIter, BranchConditionPos};
+pub use branch_tests::branch_holds;
 pub use date::{date_info, date_shows, render_date};
 pub use date_key::full_sort_key;
 pub use empty::push_nothing;

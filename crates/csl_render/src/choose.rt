@@ -1,16 +1,14 @@
 //! Choices (CSL 1.0.2, Choose).
 
-ghost use Rattle.std.specs.Prelude.{◌≡◌, ◌<◌, List, not, IfOk, OnOk, IfErr, IfSome, option_map};
-ghost use Rattle.std.specs.List.{list_all, list_any};
+ghost use Rattle.std.specs.Prelude.{◌<◌, ◌≡◌, List, IfOk, IfErr, IfSome, option_map};
 ghost use Rattle.csl_elements.specs.declared.taxonomy.Variable.{Variable};
 ghost use Rattle.csl_elements.specs.declared.taxonomy.Variable.TheVariants as variable;
 ghost use Rattle.csl_entry.specs.Alike.{Each};
 ghost use Rattle.csl_elements.specs.Node.{size, sizes};
 ghost use Rattle.csl_elements.specs.View.{view_nodes, view_branch, view_choose};
-ghost use Rattle.csl_context.specs.ContextView.{Gives, Reads, GivesBy, FailsSilently, render_input};
+ghost use Rattle.csl_context.specs.ContextView.{Reads, GivesBy, FailsSilently, render_input};
 ghost use Rattle.csl_context.specs.State.{State};
-ghost use Rattle.csl_nodes.specs.Conditions.{all_if, branch_matches, satisfies, chosen_children};
-ghost use Rattle.csl_nodes.specs.RemainingConditions.{remaining_conditions, context_of, after_first, after_deciding};
+ghost use Rattle.csl_nodes.specs.Conditions.{all_if, chosen_children};
 ghost use Rattle.csl_render.specs.declared.plan.PlanItem.{PlanItem};
 ghost use Rattle.csl_render.specs.Expanded.{expanded, expanded_nodes, expanded_taken};
 ghost use Rattle.csl_render.specs.Plan.{HasTested, HasAllTested, AreInside, AreOfTaken};
@@ -25,76 +23,9 @@ use crate::query::Query;
 use crate::variable_set::VariableSet;
 use csl_context::{Context, RenderError};
 use csl_entry::EntryLike;
-use csl_nodes::{BranchConditionIter, no_info, push_nothing, without_group_flag};
-use csl_style::{
-    Choose, ChooseBranch, ChooseMatch, DateVariable, LayoutRenderingElement, Variable,
-};
+use csl_nodes::{branch_holds, no_info, push_nothing, without_group_flag};
+use csl_style::{Choose, ChooseBranch, DateVariable, LayoutRenderingElement, Variable};
 use lit_model::Memory;
-
-/// Whether all remaining conditions hold. Reads up to the first that does not.
-fn all_hold<'a, 's, T: EntryLike>(
-    conditions: &mut BranchConditionIter<'a, 's, T>,
-) -> Result<bool, RenderError>
-    ensures value { Gives result (list_all (λ b. b) (remaining_conditions T.answers conditions.old)) }
-    ensures read { OnOk result (remaining_conditions T.answers conditions.new
-        ≡ after_first not (remaining_conditions T.answers conditions.old)) }
-    ensures err { IfErr result (λ e. FailsSilently e (context_of conditions.old)) }
-{
-    while let Some(condition) = conditions.next() {
-        if !condition? {
-            return Ok(false);
-        }
-    }
-    Ok(true)
-}
-
-/// Whether any remaining condition holds. Reads up to the first that does.
-fn any_holds<'a, 's, T: EntryLike>(
-    conditions: &mut BranchConditionIter<'a, 's, T>,
-) -> Result<bool, RenderError>
-    ensures value { Gives result (list_any (λ b. b) (remaining_conditions T.answers conditions.old)) }
-    ensures read { OnOk result (remaining_conditions T.answers conditions.new
-        ≡ after_first (λ b. b) (remaining_conditions T.answers conditions.old)) }
-    ensures err { IfErr result (λ e. FailsSilently e (context_of conditions.old)) }
-{
-    while let Some(condition) = conditions.next() {
-        if condition? {
-            return Ok(true);
-        }
-    }
-    Ok(false)
-}
-
-/// Whether the remaining conditions satisfy the match. Those after the deciding one stay unread.
-fn satisfies<'a, 's, T: EntryLike>(
-    match_: ChooseMatch,
-    conditions: &mut BranchConditionIter<'a, 's, T>,
-) -> Result<bool, RenderError>
-    ensures value { Gives result (satisfies match_ (remaining_conditions T.answers conditions.old)) }
-    ensures read { OnOk result (remaining_conditions T.answers conditions.new
-        ≡ after_deciding match_ (remaining_conditions T.answers conditions.old)) }
-    ensures err { IfErr result (λ e. FailsSilently e (context_of conditions.old)) }
-{
-    match match_ {
-        ChooseMatch::All => all_hold(conditions),
-        ChooseMatch::Any => any_holds(conditions),
-        ChooseMatch::None => {
-            let any = any_holds(conditions)?;
-            Ok(!any)
-        }
-    }
-}
-
-/// Whether the branch is taken if no branch before it is.
-#[tactic(auto, unfolding(csl_nodes::specs::Conditions::branch_matches))]
-fn holds<'s, T: EntryLike>(ctx: &Context<'s, T>, branch: &ChooseBranch) -> Result<bool, RenderError>
-    ensures value { Gives result (branch_matches (render_input T.answers ctx.now) ctx.now.state
-        (view_branch branch.now).tests) }
-    ensures err { IfErr result (λ e. FailsSilently e ctx.now) }
-{
-    let mut conditions = BranchConditionIter::from_branch(branch, ctx);
-    satisfies(branch.match_, &mut conditions)
-}
 
 /// Returns the nodes of the first branch whose conditions satisfy its match, else those of
 /// `cs:else`, if there is one. Lookups are silent.
@@ -106,11 +37,11 @@ fn first_taken<'a, 's, T: EntryLike>(
         (render_input T.answers ctx.now) ctx.now.state (view_choose choose.now)) }
     ensures err { IfErr result (λ e. FailsSilently e ctx.now) }
 {
-    if holds(ctx, &choose.if_)? {
+    if branch_holds(ctx, &choose.if_)? {
         return Ok(Some(choose.if_.children.as_slice()));
     }
     for branch in &choose.else_if {
-        if holds(ctx, branch)? {
+        if branch_holds(ctx, branch)? {
             return Ok(Some(branch.children.as_slice()));
         }
     }

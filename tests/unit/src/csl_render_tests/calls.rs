@@ -1,8 +1,9 @@
 //! Calls of functions that allocate, each with ample memory: the bibliography entry of a book, the
-//! choice of nodes, the tests of a branch, and the sort key of a date.
+//! choice of nodes, the tests of a branch and whether it holds, and the sort key of a date.
 
 use csl_context::Context;
 use csl_entry::{CiteProperties, DisambiguateState, InstanceContext};
+use csl_nodes::branch_holds;
 use csl_render::{BranchConditionIter, bibliography_entry, choose_children, full_sort_key};
 use csl_style::{
     Choose, ChooseBranch, Layout, LayoutRenderingElement, Scope, StandardVariable, Style,
@@ -96,6 +97,20 @@ fn tests_for(
     tests
 }
 
+/// Whether the first branch of a choice holds, for a cite of the entry.
+fn holds_for(
+    rt: &impl Abort,
+    alloc: Global,
+    style: &Style,
+    choose: &Choose,
+    cite: InstanceContext<'_, Entry>,
+) -> bool {
+    let ctx = Context::new(alloc, style, cite, Scope::Citation).expect(rt, "memory");
+    let holds = branch_holds(&ctx, &choose.if_).expect(rt, "memory");
+    drop(ctx);
+    holds
+}
+
 /// The number of nodes that the choice takes, for a cite of the entry.
 fn count_of(
     rt: &impl Abort,
@@ -138,6 +153,8 @@ fn a_choice_takes_the_nodes_of_a_branch(rt: HostRuntime) {
     };
     let tests = tests_for(&rt, rt.alloc(), &style, &choose, cite);
     assert_eq!(rt; tests.as_str(), "1");
+    let holds = holds_for(&rt, rt.alloc(), &style, &choose, cite);
+    assert!(rt; holds, "the book has a title");
     let count = count_of(&rt, rt.alloc(), &style, &choose, cite);
     assert!(rt; count == 1, "the title is taken");
     drop(choose);

@@ -1,0 +1,10 @@
+use Rattle.std.proofs.Common.{◌≡◌, drop, map}
+use Rattle.csl_context.specs.ContextView.{render_input}
+use Rattle.csl_nodes.specs.Conditions.{is_present, has_outcome}
+use Rattle.csl_nodes.proofs.branch_tests.any_present.Given as goal
+
+-- the remaining tests have the outcome if all have
+abbrev pub invariant-loop-variable : goal.invariant-loop-variable
+invariant-loop-variable g l =
+    let test = is_present (render_input g.T.EntryLike.answers l.ctx) l.ctx.state in
+    has_outcome l.outcome (map test (drop l.variable-index l.variables)) ≡ has_outcome l.outcome (map test l.variables)
