@@ -1,3 +1,4 @@
 pub mod Pieces
 pub mod Counts
 pub mod GivenNames
+pub mod Limits

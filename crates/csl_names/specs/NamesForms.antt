@@ -13,9 +13,10 @@
 --   by the lists as they are looked up.
 use Rattle.std.specs.Prelude.{ℕ, ◌+◌, Bool, false, not, ◌&&◌, ◌||◌, ◌==◌, nat_le, min, List, [], ◌∷◌, map, length, count_by, Option, Some, None, is_some, if◌then◌else◌}
 use Rattle.std.specs.List.{list_all, range_with_len}
+use Rattle.std.specs.Option.{option_or}
 use Rattle.csl_elements.specs.declared.names.NameForm.{NameForm}
 use Rattle.csl_elements.specs.declared.names.NameForm.TheVariants.{Count, Short, Long}
-use Rattle.csl_elements.specs.NameOptions.{PartialOptions, CompleteOptions, apply_options, is_suppressed}
+use Rattle.csl_elements.specs.NameOptions.{CompleteOptions, is_suppressed}
 use Rattle.csl_elements.specs.Names.{NameNode, NamesNode}
 use Rattle.csl_entry.specs.declared.forms.name_form.DisambiguatedNameForm.{DisambiguatedNameForm}
 use Rattle.csl_entry.specs.declared.forms.name_form.DisambiguatedNameForm.TheVariants as forms
@@ -71,14 +72,18 @@ hides_all None first ls = false
 hides_all (Some min) None ls = false
 hides_all (Some min) (Some first) ls = (first == 0) && list_all (λ l. nat_le min (length l.0)) ls
 
-abbrev pub name_hides : PartialOptions → PersonLists → NameNode → Bool
-name_hides own ls n = hides_all (apply_options n.options own).et_al_min (apply_options n.options own).et_al_use_first ls
+-- whether a name child hides all names, by its limits over those of its node
+abbrev pub name_hides : Option ℕ → Option ℕ → PersonLists → NameNode → Bool
+name_hides min first ls n = hides_all (option_or n.options.et_al_min min) (option_or n.options.et_al_use_first first) ls
 
--- whether each name child hides all names, or the default one if there is none, by the options of
--- the node alone
-abbrev pub each_hides : PartialOptions → PersonLists → List NameNode → Bool
-each_hides own ls [] = hides_all own.et_al_min own.et_al_use_first ls
-each_hides own ls (n ∷ ns) = list_all (name_hides own ls) (n ∷ ns)
+-- whether each name child hides all names, or the default one if there is none
+abbrev pub each_hides : Option ℕ → Option ℕ → PersonLists → List NameNode → Bool
+each_hides min first ls [] = hides_all min first ls
+each_hides min first ls (n ∷ ns) = list_all (name_hides min first ls) (n ∷ ns)
+
+-- whether a node hides all names, by its own options alone
+abbrev pub hides_names : NamesNode → PersonLists → Bool
+hides_names n ls = each_hides n.options.et_al_min n.options.et_al_use_first ls n.name_children
 
 abbrev pub writes_no_name : NamesNode → PersonLists → Bool
-writes_no_name n ls = all_empty ls || each_hides n.options ls n.name_children
+writes_no_name n ls = all_empty ls || hides_names n ls

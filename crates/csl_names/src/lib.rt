@@ -15,6 +15,6 @@ mod piece;
 
 pub use list_styles::write_name_list;
 pub use name_styles::write_name;
-pub use names::forms::writes_no_name;
-pub use names::lists::{PersonList, all_empty, peeked_lists, resolved_lists};
+pub use names::forms::{may_hide, writes_no_name};
+pub use names::lists::{PersonList, all_empty, no_persons, peeked_lists, resolved_lists};
 pub use names::node::{commit_names, write_names};

@@ -32,7 +32,8 @@ use crate::variable_set::VariableSet;
 use csl_context::{Context, RenderError};
 use csl_entry::{EntryLike, SpecialForm};
 use csl_names::{
-    PersonList, all_empty, commit_names, peeked_lists, resolved_lists, write_names, writes_no_name,
+    PersonList, all_empty, commit_names, may_hide, no_persons, peeked_lists, resolved_lists,
+    write_names, writes_no_name,
 };
 use csl_nodes::{UsageInfo, no_info, push_nothing, without_group_flag};
 use csl_style::{LayoutRenderingElement, NameVariable, Names, NamesParts, Variable};
@@ -58,11 +59,22 @@ fn summarize_names<'s, T: EntryLike>(
         (peeked_lists (render_input T.answers ctx.now) ctx.now.state
         (names_node names.now).variables)) }
 {
-    let parts = names.parts();
-    let lists = peeked_lists(ctx, parts.variables)?;
+    if no_persons(ctx, &names.variable)? {
+        return Ok(NamesSummary {
+            is_empty: true,
+            is_void: true,
+        });
+    }
+    if !may_hide(names) {
+        return Ok(NamesSummary {
+            is_empty: false,
+            is_void: false,
+        });
+    }
+    let lists = peeked_lists(ctx, &names.variable)?;
     Ok(NamesSummary {
-        is_empty: all_empty(&lists),
-        is_void: writes_no_name(parts, &lists),
+        is_empty: false,
+        is_void: writes_no_name(names.parts(), &lists),
     })
 }
 

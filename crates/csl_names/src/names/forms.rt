@@ -1,17 +1,19 @@
 //! The form of each name of a names node, the names that are left out, and whether the node is void
 //! (CSL 1.0.2, Name: form, initialize, et-al-min and those after it).
 
-ghost use Rattle.std.specs.Prelude.{◌≡◌, map, IfOk};
-ghost use Rattle.csl_elements.specs.NameOptions.{complete_options, inherited_options};
+ghost use Rattle.std.specs.Prelude.{◌≡◌, [], false, map, IfOk};
+ghost use Rattle.std.specs.Bool.{OnFalse};
+ghost use Rattle.csl_elements.specs.NameOptions.{complete_options};
 ghost use Rattle.csl_elements.specs.Names.{view_name};
-ghost use Rattle.csl_elements.specs.NamesParts.{parts_node};
+ghost use Rattle.csl_elements.specs.NamesParts.{parts_node, names_node};
 ghost use Rattle.csl_elements.specs.View.{view_child, name_children};
-ghost use Rattle.csl_names.specs.NamesForms.{default_form, form_in, list_forms, default_forms, shown_count, count_of, saturated_count, hides_all, name_hides, each_hides, writes_no_name};
+ghost use Rattle.csl_names.specs.NamesForms.{default_form, form_in, list_forms, default_forms, shown_count, count_of, saturated_count, hides_all, name_hides, each_hides, hides_names, writes_no_name};
+ghost use Rattle.csl_names.specs.NamesLists.{PersonLists};
 ghost use Rattle.csl_names.specs.PersonLists.{list_of};
 
 use crate::names::lists::{PersonList, all_empty};
 use csl_entry::DisambiguatedNameForm;
-use csl_style::{InheritedNameOptions, Name, NameForm, NameOptions, NamesChild, NamesParts};
+use csl_style::{Name, NameForm, NameOptions, Names, NamesChild, NamesParts};
 use lit_model::Memory;
 use std::alloc::Global;
 
@@ -125,22 +127,24 @@ fn hides_all(min: Option<u32>, first: Option<u32>, lists: &[PersonList<'_>]) -> 
     true
 }
 
-/// Whether a name child hides all names, by its options over those of its node.
-fn name_hides(own: InheritedNameOptions<'_>, name: &Name, lists: &[PersonList<'_>]) -> bool
-    ensures { result ≡ name_hides (inherited_options own.entry) (map list_of lists.now)
-        (view_name name.now) }
+/// Whether a name child hides all names, by its limits over those of its node.
+fn name_hides(min: Option<u32>, first: Option<u32>, name: &Name, lists: &[PersonList<'_>]) -> bool
+    ensures { result ≡ name_hides min first (map list_of lists.now) (view_name name.now) }
 {
-    let options = name.options.apply(own);
-    hides_all(options.et_al_min, options.et_al_use_first, lists)
+    let min = name.options.et_al_min.or(min);
+    let first = name.options.et_al_use_first.or(first);
+    hides_all(min, first, lists)
 }
 
-/// Whether each name child hides all names. If there is none, the node's own options decide.
+/// Whether each name child hides all names, by its limits over these of the node. If there is no
+/// name child, these decide.
 fn each_hides(
-    own: InheritedNameOptions<'_>,
+    min: Option<u32>,
+    first: Option<u32>,
     children: &[NamesChild],
     lists: &[PersonList<'_>],
 ) -> bool
-    ensures { result ≡ each_hides (inherited_options own.entry) (map list_of lists.now)
+    ensures { result ≡ each_hides min first (map list_of lists.now)
         (name_children (map view_child children.now)) }
 {
     let mut is_alone = true;
@@ -148,14 +152,14 @@ fn each_hides(
         match child {
             NamesChild::Name(name) => {
                 is_alone = false;
-                if !name_hides(own, name, lists) {
+                if !name_hides(min, first, name, lists) {
                     return false;
                 }
             }
             NamesChild::EtAl(_) | NamesChild::Label(_) | NamesChild::Substitute(_) => {}
         }
     }
-    !is_alone || hides_all(own.et_al_min, own.et_al_use_first, lists)
+    !is_alone || hides_all(min, first, lists)
 }
 
 /// Whether a names node is void: no list has a person, or its own options hide all names.
@@ -165,5 +169,18 @@ pub fn writes_no_name(parts: NamesParts<'_>, lists: &[PersonList<'_>]) -> bool
     if all_empty(lists) {
         return true;
     }
-    each_hides(parts.options, parts.children, lists)
+    let (min, first) = (parts.options.et_al_min, parts.options.et_al_use_first);
+    each_hides(min, first, parts.children, lists)
+}
+
+/// Whether the options of a names node hide all names of lists that are long enough. If not, it is
+/// void only without persons.
+#[tactic(auto, using(crate::proofs::Limits::never_hides))]
+pub fn may_hide(names: &Names) -> bool
+    ensures value { result ≡ hides_names (names_node names.now) [] }
+    ensures never { OnFalse result ((lists : PersonLists)
+        → hides_names (names_node names.now) lists ≡ false) }
+{
+    let (min, first) = (names.options.et_al_min, names.options.et_al_use_first);
+    each_hides(min, first, &names.children, &[])
 }

@@ -126,6 +126,25 @@ fn each_resolved<'s, T: EntryLike>(
     Ok(lists)
 }
 
+/// Whether no variable has a person, by silent lookups. It stops at the first that has one.
+///
+/// # Errors
+/// [`Memory`]: out of memory, here or in the entry, or the context had failed already.
+pub fn no_persons<'s, T: EntryLike>(
+    ctx: &Context<'s, T>,
+    variables: &[NameVariable],
+) -> Result<bool, Memory>
+    ensures { IfOk result (λ b. b ≡ all_empty (peeked_lists (render_input T.answers ctx.now)
+        ctx.now.state variables.now)) }
+{
+    for variable in variables {
+        if !peek_names(ctx, *variable)?.is_empty() {
+            return Ok(false);
+        }
+    }
+    Ok(true)
+}
+
 /// The lists of a names node with these variables in a dry run: one for each variable, by silent
 /// lookups. Editors and translators are not merged.
 ///

@@ -7,7 +7,7 @@ use crate::csl_cli_tests::node_at::node_at;
 use crate::csl_cli_tests::shared::{assert_plain, entries, instance};
 use csl_context::{Context, RenderError, Rendered};
 use csl_entry::{CiteProperties, DisambiguateState, EntryLike};
-use csl_names::{commit_names, peeked_lists, resolved_lists, write_names};
+use csl_names::{commit_names, may_hide, no_persons, peeked_lists, resolved_lists, write_names};
 use csl_nodes::{
     UsageInfo, date_info, date_shows, label_info, no_info, number_info, number_shows, push_nothing,
     render_date, render_label, render_number, render_term, render_value, render_variable,
@@ -94,19 +94,21 @@ fn no_run<T: EntryLike>(ctx: &mut Context<'_, T>) -> Result<DryRun, RenderError>
 }
 
 /// Renders names, and after them a letter in a box of names. Returns whether silent lookups find
-/// one list, without usage flags, and whether lookups for printing find one.
+/// one list of persons, which no limit can hide, without usage flags, and whether lookups for
+/// printing find one.
 fn names_run<'s, T: EntryLike>(
     ctx: &mut Context<'s, T>,
     names: &'s Names,
 ) -> Result<DryRun, RenderError> {
     let parts = names.parts();
-    let found = ctx.attempt(peeked_lists(ctx, parts.variables))?.len();
+    let one = ctx.attempt(peeked_lists(ctx, parts.variables))?.len() == 1;
+    let found = one && !ctx.attempt(no_persons(ctx, parts.variables))? && !may_hide(names);
     let lists = resolved_lists(ctx, parts.variables)?;
     write_names(ctx, parts, &lists)?;
     let element = ctx.push_elem()?;
     ctx.push_str("x")?;
     commit_names(ctx, element, None, &lists)?;
-    Ok(((found == 1, UsageInfo::default()), lists.len() == 1))
+    Ok(((found, UsageInfo::default()), lists.len() == 1))
 }
 
 /// Renders a node by the calls for its kind, and returns their results. A group or a choice appends

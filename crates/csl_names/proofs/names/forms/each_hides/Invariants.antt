@@ -1,6 +1,5 @@
 use Rattle.std.proofs.Common.{◌≡◌, drop, map, if◌then◌else◌}
 use Rattle.std.specs.List.{list_all}
-use Rattle.csl_elements.specs.NameOptions.{inherited_options}
 use Rattle.csl_elements.specs.View.{view_child, name_children}
 use Rattle.csl_names.specs.NamesForms.{each_hides, name_hides}
 use Rattle.csl_names.specs.PersonLists.{list_of}
@@ -10,7 +9,6 @@ use Rattle.csl_names.proofs.names.forms.each_hides.Given as goal
 -- ones has to hide all names.
 abbrev pub invariant-loop-child : goal.invariant-loop-child
 invariant-loop-child l =
-    let own = inherited_options l.own in
     let lists = map list_of l.lists in
     let rest = name_children (map view_child (drop l.child-index l.children)) in
-    (if l.is_alone then each_hides own lists rest else list_all (name_hides own lists) rest) ≡ each_hides own lists (name_children (map view_child l.children))
+    (if l.is_alone then each_hides l.min l.first lists rest else list_all (name_hides l.min l.first lists) rest) ≡ each_hides l.min l.first lists (name_children (map view_child l.children))
