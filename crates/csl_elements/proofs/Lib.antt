@@ -6,6 +6,7 @@ pub mod Overlays
 pub mod NamesChildren
 pub mod Rolled
 pub mod Sets
+pub mod VariableSets
 pub mod Options
 pub mod Injective
 pub mod OneName

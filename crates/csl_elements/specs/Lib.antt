@@ -19,3 +19,4 @@ pub mod Term
 pub mod OfCitation
 pub mod NamesParts
 pub mod NamedSet
+pub mod VariableSet

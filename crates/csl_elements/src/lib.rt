@@ -16,6 +16,7 @@ mod of_citation;
 pub mod taxonomy;
 pub mod term;
 pub mod text;
+mod variable_set;
 
 pub use affixes::Affixes;
 pub use csl_common::{GrammarGender, LongShortForm, NumberForm, Season};
@@ -41,3 +42,4 @@ pub use taxonomy::{
 };
 pub use term::{OtherTerm, Term, TermForm};
 pub use text::{Text, TextTarget};
+pub use variable_set::VariableSet;

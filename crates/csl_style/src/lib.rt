@@ -28,7 +28,7 @@ pub use csl_elements::{
     NamePart, NamePartName, NameVariable, Named, Names, NamesChild, NamesParts, Number, NumberForm,
     NumberOrPageVariable, NumberVariable, OrdinalMatch, OrdinalSlot, OrdinalTerm, OtherTerm,
     PageVariable, PlacedLabel, RenderingElement, Season, StandardVariable, Substitute, Term,
-    TermEntry, TermForm, TestPosition, Text, TextDecoration, TextTarget, Variable,
+    TermEntry, TermForm, TestPosition, Text, TextDecoration, TextTarget, Variable, VariableSet,
     VariablelessLabel, VerticalAlign, affixes, date, element, formatting, locale, names, number,
     taxonomy, term, text,
 };

@@ -26,3 +26,4 @@ mod taxonomy;
 mod term;
 mod term_names;
 mod variable_names;
+mod variable_set;

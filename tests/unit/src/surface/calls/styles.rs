@@ -4,10 +4,11 @@ use crate::surface::bounds::has_type;
 use csl_style::{
     Choose, ChooseBranch, CslMacro, Date, DateForm, DateVariable, Formatting, Kind, Layout, Locale,
     Locator, NameOptions, NameVariable, Named, NumberVariable, OtherTerm, PageVariable, Scope,
-    StandardVariable, Style, StyleError, StyleSettings, Term, TermForm, Variable,
+    StandardVariable, Style, StyleError, StyleSettings, Term, TermForm, Variable, VariableSet,
 };
 use lit_model::{GrammarGender, Memory};
 use std::alloc::Global;
+use std::collections::BTreeSet;
 use std::iter::{Chain, Once};
 use std::slice::Iter;
 
@@ -65,6 +66,16 @@ fn styles() {
     let _: fn(&Style, &Layout, u64, u64, usize) -> bool = Style::rendered_within;
     let _: fn(Global, &Style, &Layout) -> Result<Named, Memory> = csl_style::named_by;
     let _: fn(&Named, Global) -> Result<Named, Memory> = Named::clone;
+}
+
+fn variable_sets() {
+    let _: fn() -> VariableSet = VariableSet::new;
+    let _: fn() -> VariableSet = VariableSet::all;
+    let _: fn(&BTreeSet<Variable>) -> VariableSet = VariableSet::of;
+    let _: fn(VariableSet, Variable) -> VariableSet = VariableSet::with;
+    let _: fn(VariableSet, VariableSet) -> VariableSet = VariableSet::union;
+    let _: fn(VariableSet, Variable) -> bool = VariableSet::contains;
+    let _: fn(VariableSet, VariableSet, VariableSet) -> bool = VariableSet::is_alike_on;
 }
 
 fn languages() {

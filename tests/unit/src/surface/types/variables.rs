@@ -3,7 +3,7 @@
 use crate::surface::bounds::{copied, equal, has_type, hashed, ordered};
 use csl_style::{
     DateVariable, Kind, Locator, NameVariable, NumberOrPageVariable, NumberVariable, PageVariable,
-    StandardVariable, Variable,
+    StandardVariable, Variable, VariableSet,
 };
 
 fn number_variable(it: &NumberVariable) {
@@ -156,6 +156,10 @@ fn variable(it: &Variable) {
         Variable::Date(it) => has_type::<DateVariable, _>(it),
         Variable::Name(it) => has_type::<NameVariable, _>(it),
     }
+}
+
+fn variable_set() {
+    copied::<VariableSet>();
 }
 
 fn number_or_page_variable(it: &NumberOrPageVariable) {
