@@ -26,10 +26,10 @@ use Rattle.csl_render.specs.declared.plan.PlanItem.{PlanItem}
 use Rattle.csl_render.specs.DryRun.{Adds, Run}
 use Rattle.csl_render.specs.Expanded.{expanded, expanded_substitutes}
 use Rattle.csl_render.specs.Names.{names_or_substitute_info, expanded_substitutes_of}
-use Rattle.csl_render.specs.declared.variable_set.VariableSet.{VariableSet}
-use Rattle.csl_render.specs.Plan.{dry, dry_now, AreSuppressedAlike, AreAlikeOn, HasTested, HasAllTested, HasReadByNames, answer_of, AreInside, AreItems, AreTaken, AreOfTaken, AreOfSubstitutes, IsInfo, IsInfoOfNodes, IsInfoOfSubstitutes, IsDryRun}
+use Rattle.csl_elements.specs.declared.variable_set.VariableSet.{VariableSet}
+use Rattle.csl_render.specs.Plan.{DryView, dry, dry_now, dry_view, AreSuppressedAlike, AreAlikeOn, HasTested, HasAllTested, HasReadByNames, answer_of, AreInside, AreItems, AreTaken, AreOfTaken, AreOfSubstitutes, IsInfo, IsInfoOfNodes, IsInfoOfSubstitutes, IsDryRun}
 use Rattle.csl_render.specs.Tree.{info, nodes_info, refused_in, substitute_info, choice_info}
-use Rattle.csl_render.specs.VariableSet.{IsWithin}
+use Rattle.csl_elements.specs.VariableSet.{IsWithin}
 use Rattle.csl_render.proofs.Chosen.{IsChoice, is_choice, choice_out, info_of_choice}
 use Rattle.csl_render.proofs.GroupView.{group_out}
 use Rattle.csl_render.proofs.NamesView.{names_out}
@@ -37,7 +37,7 @@ use Rattle.csl_render.proofs.Reading.{matches_same, names_info_same, alike_withi
 
 -- ---- no plan
 
-module _ (w : RenderInput) (d : State) where
+module _ (w : RenderInput) (d : DryView) where
   pub no_items : (fs : ExpandedNodes) → AreItems w d fs []
   no_items no_expanded_nodes = tt
   no_items (expanded_node f fs) = tt
@@ -122,7 +122,7 @@ pub nodes_from : (env : List ℕ → Option ExpandedNodes) (ns : List LayoutRend
 nodes_from env ns i x within is = at_drop_more (λ l. expand_nodes env (view_nodes l)) ns i x within ∙ ap (λ y. expand_nodes env (view_nodes (y ∷ drop (i + 1) ns))) (sym is)
 
 -- the result for a node and the items for those inside it, before the items for the nodes after it
-pub first_planned : (w : RenderInput) (d : State) (f : ExpandedNode) (fs : ExpandedNodes) (i : NodeInfo) (inside others : List PlanItem) → IsInfo w d f i inside → AreItems w d fs others → AreItems w d (expanded_node f fs) (record { info = i; inside = length inside } ∷ (inside ++ others))
+pub first_planned : (w : RenderInput) (d : DryView) (f : ExpandedNode) (fs : ExpandedNodes) (i : NodeInfo) (inside others : List PlanItem) → IsInfo w d f i inside → AreItems w d fs others → AreItems w d (expanded_node f fs) (record { info = i; inside = length inside } ∷ (inside ++ others))
 first_planned w d f fs i inside others one rest = (
   (let long = length-append inside others in omega (arith, long)),
   (λ s alike. subst (λ is. (answer_of i ≡ info w s f) × AreInside w d s f is) (sym (take_at inside others (length inside) refl)) (one s alike)),
@@ -130,10 +130,10 @@ first_planned w d f fs i inside others one rest = (
 )
 
 -- the items so far, with any for the remaining nodes, are those of all nodes
-abbrev pub ArePlanned : RenderInput → State → ExpandedNodes → ExpandedNodes → List PlanItem → Type 0
+abbrev pub ArePlanned : RenderInput → DryView → ExpandedNodes → ExpandedNodes → List PlanItem → Type 0
 ArePlanned w d rest all is = (others : List PlanItem) → AreItems w d rest others → AreItems w d all (is ++ others)
 
-pub one_more : {T : Type 0} (w : RenderInput) (d : State) (f : ExpandedNode) (fs rest all : ExpandedNodes) (i : NodeInfo) (start now next : Run T) → rest ≡ expanded_node f fs → Adds (ArePlanned w d rest all) start now → Adds (AreClosed i (IsInfo w d f i)) now next → Adds (ArePlanned w d fs all) start next
+pub one_more : {T : Type 0} (w : RenderInput) (d : DryView) (f : ExpandedNode) (fs rest all : ExpandedNodes) (i : NodeInfo) (start now next : Run T) → rest ≡ expanded_node f fs → Adds (ArePlanned w d rest all) start now → Adds (AreClosed i (IsInfo w d f i)) now next → Adds (ArePlanned w d fs all) start next
 one_more w d f fs rest all i start now next from before more =
     let (inside, is, one) = more.hold in
     record {
@@ -147,15 +147,15 @@ one_more w d f fs rest all i start now next from before more =
 -- ---- a plan of a node
 
 -- the plan of the nodes inside names is that of their first substitute
-pub substitutes_inside : (w : RenderInput) (d s : State) (env : List ℕ → Option ExpandedNodes) (x : Names) (is : List PlanItem) → AreInside w d s (expand env (view_names x)) is → AreOfSubstitutes w d (expanded_substitutes_of env x) is
+pub substitutes_inside : (w : RenderInput) (d : DryView) (s : State) (env : List ℕ → Option ExpandedNodes) (x : Names) (is : List PlanItem) → AreInside w d s (expand env (view_names x)) is → AreOfSubstitutes w d (expanded_substitutes_of env x) is
 substitutes_inside w d s env x is h = subst (λ n. AreInside w d s (expand env n) is) (names_out x) h
 
-pub names_asked : (w : RenderInput) (d s : State) (env : List ℕ → Option ExpandedNodes) (x : Names) (is : List PlanItem) → AreOfSubstitutes w d (expanded_substitutes_of env x) is → AreInside w d s (expand env (view_names x)) is
+pub names_asked : (w : RenderInput) (d : DryView) (s : State) (env : List ℕ → Option ExpandedNodes) (x : Names) (is : List PlanItem) → AreOfSubstitutes w d (expanded_substitutes_of env x) is → AreInside w d s (expand env (view_names x)) is
 names_asked w d s env x is h = subst (λ n. AreInside w d s (expand env n) is) (sym (names_out x)) h
 
 -- what a dry run from an empty plan gives
 pub asked : {T : Type 0} (answers : T → Answers) (now : ContextView T) (f : ExpandedNode) (i : NodeInfo) (end : Run T) (r : AskedNode) → Adds (IsInfo (render_input answers now) (dry_now now) f i) (record { now = now; items = [] }) end
-    → r.at ≡ dry_now now → r.answer ≡ i.answer → r.inside.items ≡ end.items → IsDryRun answers now f r
+    → dry_view r.at ≡ dry_now now → r.answer ≡ i.answer → r.inside.items ≡ end.items → IsDryRun answers now f r
 asked answers now f i end r h at answer inside =
     let w = render_input answers now in
     let holds = h.hold now.state (alike_to_itself w i.read now.state) in (
@@ -165,7 +165,7 @@ asked answers now f i end r h at answer inside =
 
 -- ---- the nodes that a choice takes
 
-module _ (w : RenderInput) (env : List ℕ → Option ExpandedNodes) (d s : State) (is : List PlanItem) where
+module _ (w : RenderInput) (env : List ℕ → Option ExpandedNodes) (d : DryView) (s : State) (is : List PlanItem) where
   -- the results for the nodes that are taken in a state, by those for the choice
   taken_here : (b : Bool) (fs : ExpandedNodes) (cs : ExpandedBranches) (ns : Nodes) (o : Option Nodes) → fs ≡ expand_nodes env ns
       → (AreTaken w d s cs is → AreOfTaken w d (option_map (expand_nodes env) o) is)
@@ -217,7 +217,7 @@ module _ (w : RenderInput) (s t : State) (read : VariableSet) (alike : AreSuppre
 
 -- ---- a node around nodes, by the dry run of these nodes
 
-module _ (w : RenderInput) (d : State) (i r : NodeInfo) (read : r.read ≡ i.read) where
+module _ (w : RenderInput) (d : DryView) (i r : NodeInfo) (read : r.read ≡ i.read) where
   pub around : (fs : ExpandedNodes) (f : Info → Info) (is : List PlanItem) → IsInfoOfNodes w d fs i is → answer_of r ≡ f (answer_of i) → (s : State) → AreAlikeOn w r.read d s → (answer_of r ≡ f (nodes_info w s fs)) × AreItems w d fs is
   around fs f is h e s alike = (e ∙ ap f (h.0 s (subst (λ x. AreAlikeOn w x d s) read alike)), h.1)
 
@@ -256,6 +256,6 @@ around_names answers now x own empty void refused r is has within empties voids 
     )
 
 -- the result for substitutes, by that for the children of the first
-pub around_first : (w : RenderInput) (d : State) (ss : ExpandedSubstitutes) (taken : Option ExpandedNodes) (r : NodeInfo) (is : List PlanItem) → ((u : State) → substitute_info w u ss ≡ choice_info w u taken) → (AreOfTaken w d taken is → AreOfSubstitutes w d ss is)
+pub around_first : (w : RenderInput) (d : DryView) (ss : ExpandedSubstitutes) (taken : Option ExpandedNodes) (r : NodeInfo) (is : List PlanItem) → ((u : State) → substitute_info w u ss ≡ choice_info w u taken) → (AreOfTaken w d taken is → AreOfSubstitutes w d ss is)
     → ((u : State) → AreAlikeOn w r.read d u → answer_of r ≡ choice_info w u taken) → AreOfTaken w d taken is → IsInfoOfSubstitutes w d ss r is
 around_first w d ss taken r is same from answers inside = (λ u alike. answers u alike ∙ sym (same u), from inside)

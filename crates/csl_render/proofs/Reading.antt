@@ -1,16 +1,9 @@
 -- Dry runs read of a state whether variables are suppressed and, under two special forms, whether a
 -- date was rendered. In two states that agree on what a dry run reads it has one result.
 use Rattle.std.proofs.Common.{◌≡◌, Bool, true, false, length, List, [], ◌∷◌, map, Option, Some, None, IfSome, refl, sym, ap, ap₂, subst, ◌∙◌}
-use mathlib.Core.Bool.{beq}
 use Rattle.std.specs.Prelude.{◌||◌, ◌&&◌, ◌==◌, not, is_some, unwrap_or, if◌then◌else◌, option_map}
-use Rattle.std.specs.BTreeMap.{is_at}
-use Rattle.std.specs.List.{list_any}
-use Rattle.std.specs.Ordering.{is_eq}
-use Rattle.std.specs.declared.cmp.Ordering.{Ordering}
-use Rattle.std.specs.declared.cmp.Ordering.TheVariants.{Less, Equal, Greater}
 use Rattle.lit_model.specs.Chunks.{is_white_space}
 use Rattle.csl_common.specs.declared.form.LongShortForm.{LongShortForm}
-use Rattle.csl_elements.proofs.Variables.{variable_ordered}
 use Rattle.csl_elements.specs.declared.taxonomy.DateVariable.{DateVariable}
 use Rattle.csl_elements.specs.declared.taxonomy.NameVariable.{NameVariable}
 use Rattle.csl_elements.specs.declared.taxonomy.NumberVariable.{NumberVariable}
@@ -27,7 +20,7 @@ use Rattle.csl_entry.specs.Alike.{Each}
 use Rattle.csl_entry.specs.Instance.{resolve_number, resolve_page, resolve_standard, resolve_names, resolve_date}
 use Rattle.csl_entry.specs.declared.citation.cite.SpecialForm.{SpecialForm}
 use Rattle.csl_entry.specs.declared.citation.cite.SpecialForm.TheVariants.{VarOnly, OnlyFirstDate, OnlyYearSuffix, SuppressAuthor}
-use Rattle.csl_context.specs.State.{State, is_suppressed, variable_cmp}
+use Rattle.csl_context.specs.State.{State, is_suppressed}
 use Rattle.csl_context.specs.RenderInput.{RenderInput, peek_number, peek_page, peek_standard, peek_names, peek_date}
 use Rattle.csl_names.specs.NamesLists.{all_empty, peeked_lists}
 use Rattle.csl_entry.specs.NumberResult.{number, page}
@@ -38,12 +31,12 @@ use Rattle.csl_nodes.specs.Usage.{info_of, no_usage_flags, no_info}
 use Rattle.csl_nodes.specs.Labels.{text_beside, label_by_special_form, label_info}
 use Rattle.csl_nodes.specs.Numbers.{presence_info, shows_own, number_info}
 use Rattle.csl_nodes.specs.Text.{standard_text, number_result, shows_variable, calls, resolved_variable, resolved_text, resolved_info, is_of, target_info}
-use Rattle.csl_render.specs.declared.variable_set.VariableSet.{VariableSet}
+use Rattle.csl_elements.specs.declared.variable_set.VariableSet.{VariableSet}
 use Rattle.csl_names.specs.NamesForms.{writes_no_name}
 use Rattle.csl_render.specs.Names.{author, is_refused, names_show, names_info, names_or_substitute_info}
-use Rattle.csl_render.specs.Plan.{asks_for_dates, asks_for_author, dry, AreSuppressedAlike, AreAlikeOn, AreKept, HasTested, HasReadByNames}
+use Rattle.csl_render.specs.Plan.{DryView, asks_for_dates, asks_for_author, dry, AreSuppressedAlike, AreAlikeOn, HasTested, HasReadByNames}
 use Rattle.csl_render.specs.Tree.{info, shows, any_shows, branches_show, substitute_shows, substitute_info}
-use Rattle.csl_render.specs.VariableSet.{Has, IsWithin}
+use Rattle.csl_elements.specs.VariableSet.{Has, IsWithin}
 use Rattle.csl_render.proofs.VariableSets.{each_of}
 
 -- ---- dates
@@ -218,44 +211,12 @@ date_read s u read alike None h = tt
 date_read s u read alike (Some v) h = alike (variable.Date v) h
 
 -- what is read of a set is read of a part of it
-pub alike_within : (w : RenderInput) (a b : VariableSet) (d s : State) → IsWithin a b → AreAlikeOn w b d s → AreAlikeOn w a d s
+pub alike_within : (w : RenderInput) (a b : VariableSet) (d : DryView) (s : State) → IsWithin a b → AreAlikeOn w b d s → AreAlikeOn w a d s
 alike_within w a b d s within h = (h.0, λ v has. h.1 v (within v has))
 
 -- what dry runs read of a state is alike to the state
 pub alike_to_itself : (w : RenderInput) (read : VariableSet) (s : State) → AreAlikeOn w read (dry w.instance.special s) s
 alike_to_itself w read s = (refl, λ v has. refl)
-
-is_equal : (r : Ordering) → is_eq r ≡ true → r ≡ Equal
-is_equal Less h = cc
-is_equal Equal h = refl
-is_equal Greater h = cc
-
-module _ (P : Variable → Type 0) where
-  in_head : (v k : Variable) (b : Bool) (rest : Bool) → is_at (variable_cmp v) k ≡ b → P k → (rest ≡ true → P v) → (b || rest) ≡ true → P v
-  in_head v k true rest e p more h = subst P (sym ((variable_ordered v k).0 (is_equal (variable_cmp v k) e))) p
-  in_head v k false rest e p more h = more h
-
-  each_at : (ks : List Variable) → Each P ks → (v : Variable) → list_any (is_at (variable_cmp v)) ks ≡ true → P v
-  each_at [] e v h = cc
-  each_at (k ∷ ks) e v h = in_head v k (is_at (variable_cmp v) k) (list_any (is_at (variable_cmp v)) ks) refl e.0 (each_at ks e.1 v) h
-
-both_or_none : (a b : Bool) → (a ≡ true → b ≡ true) → (b ≡ true → a ≡ true) → a ≡ b
-both_or_none true b f g = sym (f refl)
-both_or_none false true f g = g refl
-both_or_none false false f g = refl
-
--- two lists that have the same of the variables that were read
-pub kept_alike : (read : VariableSet) (vs us : List Variable) → AreKept read vs us → AreKept read us vs → (v : Variable) → Has read v → list_any (is_at (variable_cmp v)) vs ≡ list_any (is_at (variable_cmp v)) us
-kept_alike read vs us there back v has =
-    both_or_none (list_any (is_at (variable_cmp v)) vs) (list_any (is_at (variable_cmp v)) us)
-    (λ e. each_at (λ k. Has read k → list_any (is_at (variable_cmp k)) us ≡ true) vs there v e has)
-    (λ e. each_at (λ k. Has read k → list_any (is_at (variable_cmp k)) vs ≡ true) us back v e has)
-
-pub same_bits : (a b : Bool) → not (beq a b) ≡ false → a ≡ b
-same_bits true true e = refl
-same_bits true false e = absurd (cc)
-same_bits false true e = absurd (cc)
-same_bits false false e = refl
 
 pub double_not : (b : Bool) → not (not b) ≡ b
 double_not true = refl

@@ -1,25 +1,35 @@
--- The bits of sets of variables, and lists whose variables are in a set.
-use Rattle.std.proofs.Common.{◌≡◌, ℕ, ◌+◌, ◌<◌, ◌≤◌, bit_or, drop, get_or, length, List, [], ◌∷◌, refl, subst, sym, arith}
+-- Sets of variables around others, and lists whose variables are in a set.
+use Rattle.std.proofs.Common.{◌≡◌, ◌⊎◌, ◌↔◌, ℕ, ◌+◌, ◌<◌, ◌≤◌, drop, get_or, inl, inr, length, List, [], ◌∷◌, refl, subst, sym, ◌∙◌}
+use Rattle.std.specs.Prelude.{◌||◌}
 use Rattle.std.proofs.lemmas.List.{at_drop_more, at_drop_all}
-use Rattle.std.proofs.lemmas.Nat.Bits.{bit_at_or}
-use Rattle.std.specs.Int.{bit_at}
 use Rattle.csl_elements.specs.declared.element.ChooseBranch.{ChooseBranch}
 use Rattle.csl_elements.specs.declared.element.LayoutRenderingElement.TheFolds.{fold_out-ChooseBranch}
 use Rattle.csl_elements.specs.declared.taxonomy.Variable.{Variable}
 use Rattle.csl_elements.specs.declared.taxonomy.Variable.TheVariants as variable
 use Rattle.csl_elements.specs.Node.{Tests, Node, Nodes}
+use Rattle.csl_elements.proofs.Sets.{or_left, or_right}
 use Rattle.csl_elements.specs.View.{NamesChildView, BranchView, view_branch, element_step, child_step, choose_step, branch_step, group_step, names_step, substitute_step}
 use Rattle.csl_entry.specs.Alike.{Each}
 use Rattle.csl_nodes.specs.RemainingConditions.{tests_of}
-use Rattle.csl_render.specs.declared.variable_set.VariableSet.{VariableSet}
+use Rattle.csl_elements.specs.declared.variable_set.VariableSet.{VariableSet}
 use Rattle.csl_render.specs.Plan.{HasTested}
-use Rattle.csl_render.specs.VariableSet.{Has, IsWithin}
+use Rattle.csl_elements.specs.VariableSet.{has, Has, IsWithin}
 
-pub or_left : (a b i : ℕ) → bit_at a i ≡ 1 → bit_at (bit_or a b) i ≡ 1
-or_left a b i h = omega (arith, bit_at_or a b i, h)
+-- the union of two sets has each variable of both
+module _ (a b both : VariableSet) (is : (v : Variable) → has both v ≡ (has a v || has b v)) where
+  pub left_within : IsWithin a both
+  left_within v h = is v ∙ or_left (has a v) (has b v) h
 
-pub or_right : (a b i : ℕ) → bit_at b i ≡ 1 → bit_at (bit_or a b) i ≡ 1
-or_right a b i h = omega (arith, bit_at_or a b i, h)
+  pub right_within : IsWithin b both
+  right_within v h = is v ∙ or_right (has a v) (has b v) h
+
+-- the set with one more variable has it, and each variable of the set
+module _ (a more : VariableSet) (u : Variable) (is : (v : Variable) → Has more v ↔ ((v ≡ u) ⊎ Has a v)) where
+  pub has_more : Has more u
+  has_more = (is u).1 (inl refl)
+
+  pub more_within : IsWithin a more
+  more_within v h = (is v).1 (inr h)
 
 -- ---- from a place of a list on
 

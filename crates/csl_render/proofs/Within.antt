@@ -14,7 +14,7 @@ use Rattle.csl_nodes.specs.Usage.{info_union, as_child_info, without_group_flag}
 use Rattle.csl_render.specs.Names.{is_names_of, any_is_names_of, choice_is_names_of, substitute_has_names_of}
 use Rattle.csl_render.specs.declared.plan.NodeInfo.{NodeInfo}
 use Rattle.csl_render.specs.declared.plan.PlanItem.{PlanItem}
-use Rattle.csl_render.specs.Plan.{AreItems, AreOfTaken, AreOfSubstitutes, IsInfo}
+use Rattle.csl_render.specs.Plan.{DryView, AreItems, AreOfTaken, AreOfSubstitutes, IsInfo}
 use Rattle.csl_render.specs.Tree.{is_group, info, nodes_info, shows, any_shows, substitute_info, substitute_shows, substitute_output, choice_info, choice_shows, first_substitute_output}
 
 -- names with a substitute have children
@@ -73,29 +73,7 @@ module _ (env : List ℕ → Option ExpandedNodes) (original : NamesNode) where
     shown_within v no_nodes = refl
     shown_within v (node n ns) = ap₂ (λ a b. a || b) (one_within (shows w s v) (λ n m. refl) n) (shown_within v ns)
 
-    -- a result for a child in a substitute is one for the child elsewhere
-    within_both : (i : NodeInfo) (is : List PlanItem) (n : Node) → (IsInfo w s (as_substitute_child original n (expand env n)) i is → IsInfo w s (expand env n) i is) × (IsInfo w s (expand env n) i is → IsInfo w s (as_substitute_child original n (expand env n)) i is)
-    within_both i is = related_within (λ f g. (IsInfo w s f i is → IsInfo w s g i is) × (IsInfo w s g i is → IsInfo w s f i is)) (λ f. (λ h. h, λ h. h)) (λ n m. (λ h. h, λ h. h))
-
-    planned_within : (ns : Nodes) (is : List PlanItem) → AreItems w s (expand_substitute_nodes env original ns) is → AreItems w s (expand_nodes env ns) is
-    planned_within no_nodes is h = tt
-    planned_within (node n ns) [] h = tt
-    planned_within (node n ns) (i ∷ is) h = (h.0, (within_both i.info (take i.inside is) n).0 h.1, planned_within ns (drop i.inside is) h.2)
-
-    asked_within : (ns : Nodes) (is : List PlanItem) → AreItems w s (expand_nodes env ns) is → AreItems w s (expand_substitute_nodes env original ns) is
-    asked_within no_nodes is h = tt
-    asked_within (node n ns) [] h = tt
-    asked_within (node n ns) (i ∷ is) h = (h.0, (within_both i.info (take i.inside is) n).1 h.1, asked_within ns (drop i.inside is) h.2)
-
     -- ---- the first substitute
-
-    pub planned_by : (ss : Substitutes) (is : List PlanItem) → AreOfSubstitutes w s (expand_substitutes env original ss) is → AreOfTaken w s (option_map (expand_nodes env) (first_substitute ss)) is
-    planned_by no_substitutes is h = tt
-    planned_by (substitute ns ss) is h = planned_within ns is h
-
-    pub asked_by : (ss : Substitutes) (is : List PlanItem) → AreOfTaken w s (option_map (expand_nodes env) (first_substitute ss)) is → AreOfSubstitutes w s (expand_substitutes env original ss) is
-    asked_by no_substitutes is h = tt
-    asked_by (substitute ns ss) is h = asked_within ns is h
 
     pub said_by : (ss : Substitutes) → substitute_info w s (expand_substitutes env original ss) ≡ choice_info w s (option_map (expand_nodes env) (first_substitute ss))
     said_by no_substitutes = refl
@@ -104,6 +82,29 @@ module _ (env : List ℕ → Option ExpandedNodes) (original : NamesNode) where
     pub shown_by : (v : Variable) (ss : Substitutes) → substitute_shows w s v (expand_substitutes env original ss) ≡ choice_shows w s v (option_map (expand_nodes env) (first_substitute ss))
     shown_by v no_substitutes = refl
     shown_by v (substitute ns ss) = shown_within v ns
+
+  module _ (w : RenderInput) (d : DryView) where
+    -- a result for a child in a substitute is one for the child elsewhere
+    within_both : (i : NodeInfo) (is : List PlanItem) (n : Node) → (IsInfo w d (as_substitute_child original n (expand env n)) i is → IsInfo w d (expand env n) i is) × (IsInfo w d (expand env n) i is → IsInfo w d (as_substitute_child original n (expand env n)) i is)
+    within_both i is = related_within (λ f g. (IsInfo w d f i is → IsInfo w d g i is) × (IsInfo w d g i is → IsInfo w d f i is)) (λ f. (λ h. h, λ h. h)) (λ n m. (λ h. h, λ h. h))
+
+    planned_within : (ns : Nodes) (is : List PlanItem) → AreItems w d (expand_substitute_nodes env original ns) is → AreItems w d (expand_nodes env ns) is
+    planned_within no_nodes is h = tt
+    planned_within (node n ns) [] h = tt
+    planned_within (node n ns) (i ∷ is) h = (h.0, (within_both i.info (take i.inside is) n).0 h.1, planned_within ns (drop i.inside is) h.2)
+
+    asked_within : (ns : Nodes) (is : List PlanItem) → AreItems w d (expand_nodes env ns) is → AreItems w d (expand_substitute_nodes env original ns) is
+    asked_within no_nodes is h = tt
+    asked_within (node n ns) [] h = tt
+    asked_within (node n ns) (i ∷ is) h = (h.0, (within_both i.info (take i.inside is) n).1 h.1, asked_within ns (drop i.inside is) h.2)
+
+    pub planned_by : (ss : Substitutes) (is : List PlanItem) → AreOfSubstitutes w d (expand_substitutes env original ss) is → AreOfTaken w d (option_map (expand_nodes env) (first_substitute ss)) is
+    planned_by no_substitutes is h = tt
+    planned_by (substitute ns ss) is h = planned_within ns is h
+
+    pub asked_by : (ss : Substitutes) (is : List PlanItem) → AreOfTaken w d (option_map (expand_nodes env) (first_substitute ss)) is → AreOfSubstitutes w d (expand_substitutes env original ss) is
+    asked_by no_substitutes is h = tt
+    asked_by (substitute ns ss) is h = asked_within ns is h
 
   pub named_by : (v : NameVariable) (ss : Substitutes) → substitute_has_names_of v (expand_substitutes env original ss) ≡ choice_is_names_of v (option_map (expand_nodes env) (first_substitute ss))
   named_by v no_substitutes = refl

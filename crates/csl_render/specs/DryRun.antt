@@ -17,7 +17,7 @@ use Rattle.csl_context.specs.RenderInput.{RenderInput}
 use Rattle.csl_nodes.specs.Usage.{Info, no_info, without_group_flag, macro_info}
 use Rattle.csl_render.specs.declared.plan.NodeInfo.{NodeInfo}
 use Rattle.csl_render.specs.declared.plan.PlanItem.{PlanItem}
-use Rattle.csl_render.specs.Plan.{AreAlikeOn, answer_of}
+use Rattle.csl_render.specs.Plan.{DryView, AreAlikeOn, answer_of}
 use Rattle.csl_render.specs.Tree.{nodes_info, any_shows}
 
 -- the dry run of a text that calls a macro, from the macro's nodes, if the style has it
@@ -36,11 +36,11 @@ nodes_at style None = None
 nodes_at style (Some place) = macro_env style (name_at (definitions style.macros) place)
 
 -- a result for a text that calls a macro; `d` is what the dry run read of its state
-abbrev pub IsCallInfo : RenderInput → State → Option ExpandedNodes → NodeInfo → Type 0
+abbrev pub IsCallInfo : RenderInput → DryView → Option ExpandedNodes → NodeInfo → Type 0
 IsCallInfo w d nodes i = (s : State) → AreAlikeOn w i.read d s → answer_of i ≡ call_info w s nodes
 
 -- each result is that of a text that calls the macro at its place
-abbrev pub HasInfos : RenderInput → State → BTreeMap ℕ NodeInfo → Type 0
+abbrev pub HasInfos : RenderInput → DryView → BTreeMap ℕ NodeInfo → Type 0
 HasInfos w d calls = (place : ℕ) (i : NodeInfo) → get nat_cmp calls place ≡ Some i → IsCallInfo w d (nodes_at w.style (Some place)) i
 
 -- each result is whether a text that calls the macro at its place shows the variable

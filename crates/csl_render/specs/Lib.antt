@@ -1,7 +1,6 @@
 -- The definitions that the contracts of `csl_render` cite: the dry run, the shown variables and the
 -- content of nodes and layouts.
 pub mod Names
-pub mod VariableSet
 pub mod Expanded
 pub mod Tree
 pub mod Plan

@@ -9,33 +9,32 @@
 -- private contracts cite these definitions.
 use Rattle.std.specs.Prelude.{◌≡◌, ◌≤◌, ⊤, Bool, true, false, ◌&&◌, List, [], ◌∷◌, length, take, drop, Option, Some, None}
 use Rattle.std.specs.Bool.{MatchBool}
-use Rattle.std.specs.BTreeMap.{is_at}
-use Rattle.std.specs.List.{list_any}
 use Rattle.csl_elements.specs.declared.element.Choose.{Choose, out-Choose}
 use Rattle.csl_elements.specs.declared.element.Names.{Names}
 use Rattle.csl_elements.specs.declared.taxonomy.NameVariable.{NameVariable}
 use Rattle.csl_elements.specs.declared.taxonomy.Variable.{Variable}
 use Rattle.csl_elements.specs.declared.taxonomy.Variable.TheVariants as variable
+use Rattle.csl_elements.specs.declared.variable_set.VariableSet.{VariableSet}
 use Rattle.csl_elements.specs.Node.{Tests, Node, Nodes, ExpandedNode, expanded_text, expanded_macro, unknown_macro, expanded_number, expanded_label, expanded_date, expanded_names, shorthand, expanded_choose, expanded_group, ExpandedNodes, no_expanded_nodes, expanded_node, ExpandedBranches, no_expanded_branches, expanded_otherwise, expanded_branch, ExpandedSubstitutes, no_expanded_substitutes, expanded_substitute}
+use Rattle.csl_elements.specs.VariableSet.{has, Has}
 use Rattle.csl_elements.specs.View.{view_branch}
 use Rattle.csl_entry.specs.declared.citation.cite.SpecialForm.{SpecialForm}
 use Rattle.csl_entry.specs.declared.citation.cite.SpecialForm.TheVariants.{VarOnly, OnlyFirstDate, OnlyYearSuffix, SuppressAuthor}
 use Rattle.csl_entry.specs.Alike.{Each}
 use Rattle.csl_entry.specs.Answers.{Answers}
-use Rattle.csl_context.specs.State.{State, is_suppressed, variable_cmp}
+use Rattle.csl_context.specs.State.{State, is_suppressed}
 use Rattle.csl_context.specs.RenderInput.{RenderInput}
 use Rattle.csl_context.specs.ContextView.{ContextView, render_input}
 use Rattle.csl_nodes.specs.Conditions.{all_if, branch_matches}
 use Rattle.csl_nodes.specs.Usage.{Info, info_view}
 use Rattle.csl_render.specs.declared.plan.AskedNode.{AskedNode}
+use Rattle.csl_render.specs.declared.plan.DryState.{DryState}
 use Rattle.csl_render.specs.declared.plan.ListPlan.{ListPlan}
 use Rattle.csl_render.specs.declared.plan.NodeInfo.{NodeInfo}
 use Rattle.csl_render.specs.declared.plan.NodePlan.{NodePlan}
 use Rattle.csl_render.specs.declared.plan.PlanItem.{PlanItem}
-use Rattle.csl_render.specs.declared.variable_set.VariableSet.{VariableSet}
 use Rattle.csl_render.specs.Expanded.{expanded, expanded_nodes, expanded_substitutes}
 use Rattle.csl_render.specs.Tree.{info, nodes_info, substitute_info}
-use Rattle.csl_render.specs.VariableSet.{Has}
 
 -- ---- what dry runs read of a state
 
@@ -47,25 +46,27 @@ asks_for_dates (Some OnlyFirstDate) = true
 asks_for_dates (Some OnlyYearSuffix) = true
 asks_for_dates (Some SuppressAuthor) = false
 
-abbrev pub dry : Option SpecialForm → State → State
+-- the set of the suppressed variables, and whether a date was rendered, if dry runs ask
+pub record DryView : Type 0 where
+  pub suppressed : Variable → Bool
+  pub first_date_seen : Bool
+
+abbrev pub dry : Option SpecialForm → State → DryView
 dry special s = record {
-  suppressed = s.suppressed;
-  suppressing = false;
+  suppressed = is_suppressed s;
   first_date_seen = asks_for_dates special && s.first_date_seen;
-  first_names = None;
 }
+
+abbrev pub dry_view : DryState → DryView
+dry_view d = record { suppressed = has d.suppressed; first_date_seen = d.first_date_seen }
 
 -- both states suppress the same of these variables
 abbrev pub AreSuppressedAlike : VariableSet → State → State → Type 0
 AreSuppressedAlike read s t = (v : Variable) → Has read v → is_suppressed s v ≡ is_suppressed t v
 
 -- dry runs that read these variables read `d` of the state
-abbrev pub AreAlikeOn : RenderInput → VariableSet → State → State → Type 0
-AreAlikeOn w read d s = (d.first_date_seen ≡ (dry w.instance.special s).first_date_seen) × AreSuppressedAlike read d s
-
--- the second list has each variable of the first that was read
-abbrev pub AreKept : VariableSet → List Variable → List Variable → Type 0
-AreKept read vs us = Each (λ v. Has read v → list_any (is_at (variable_cmp v)) us ≡ true) vs
+abbrev pub AreAlikeOn : RenderInput → VariableSet → DryView → State → Type 0
+AreAlikeOn w read d s = (d.first_date_seen ≡ (dry w.instance.special s).first_date_seen) × ((v : Variable) → Has read v → d.suppressed v ≡ is_suppressed s v)
 
 -- the set has the variables that the tests of a branch, or of a choice, look up
 abbrev pub HasTested : VariableSet → Tests → Type 0
@@ -93,7 +94,7 @@ abbrev pub answer_of : NodeInfo → Info
 answer_of i = info_view i.answer
 
 -- `d` is what the dry runs read of their state
-module _ (w : RenderInput) (d : State) where
+module _ (w : RenderInput) (d : DryView) where
   abbrev mutual
     -- The items for the nodes inside a node, in a state in which they hold: the children of a group,
     -- the nodes of a macro, the nodes that a choice takes, and the children of the first substitute
@@ -150,23 +151,23 @@ module _ (w : RenderInput) (d : State) where
 
 -- a plan of a list of nodes; it may not hold for the state any more
 abbrev pub ArePlans : RenderInput → ExpandedNodes → ListPlan → Type 0
-ArePlans w fs p = AreItems w p.at.now fs p.items.now
+ArePlans w fs p = AreItems w (dry_view p.at.now) fs p.items.now
 
 -- a plan of a node that holds for a state
 abbrev pub IsPlan : RenderInput → State → ExpandedNode → NodePlan → Type 0
-IsPlan w s f p = (info_view p.answer ≡ info w s f) × AreInside w p.inside.at.now s f p.inside.items.now
+IsPlan w s f p = (info_view p.answer ≡ info w s f) × AreInside w (dry_view p.inside.at.now) s f p.inside.items.now
 
 -- a plan of a node with plans of the nodes inside: of these, or of the first of these substitutes
 abbrev pub HasPlans : RenderInput → ExpandedNodes → NodePlan → Type 0
 HasPlans w fs p = ArePlans w fs p.inside
 
 abbrev pub HasPlansOfSubstitutes : RenderInput → ExpandedSubstitutes → NodePlan → Type 0
-HasPlansOfSubstitutes w ss p = AreOfSubstitutes w p.inside.at.now ss p.inside.items.now
+HasPlansOfSubstitutes w ss p = AreOfSubstitutes w (dry_view p.inside.at.now) ss p.inside.items.now
 
 -- ---- plans in a context
 
 -- what dry runs read of the state of a context
-abbrev pub dry_now : {T : Type 0} → ContextView T → State
+abbrev pub dry_now : {T : Type 0} → ContextView T → DryView
 dry_now now = dry now.special now.state
 
 module _ {T : Type 0} (answers : T → Answers) (now : ContextView T) where
@@ -174,7 +175,7 @@ module _ {T : Type 0} (answers : T → Answers) (now : ContextView T) where
   abbrev pub IsDryRun : ExpandedNode → AskedNode → Type 0
   IsDryRun f r =
       (info_view r.answer ≡ info (render_input answers now) now.state f)
-      × AreInside (render_input answers now) r.at now.state f r.inside.items
+      × AreInside (render_input answers now) (dry_view r.at) now.state f r.inside.items
 
   abbrev pub IsDryRunOf : Node → AskedNode → Type 0
   IsDryRunOf n = IsDryRun (expanded now.style n)

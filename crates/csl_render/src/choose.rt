@@ -7,12 +7,11 @@ ghost use Rattle.csl_entry.specs.Alike.{Each};
 ghost use Rattle.csl_elements.specs.Node.{size, sizes};
 ghost use Rattle.csl_elements.specs.View.{view_nodes, view_branch, view_choose};
 ghost use Rattle.csl_context.specs.ContextView.{Reads, GivesBy, FailsSilently, render_input};
-ghost use Rattle.csl_context.specs.State.{State};
 ghost use Rattle.csl_nodes.specs.Conditions.{all_if, chosen_children};
 ghost use Rattle.csl_render.specs.declared.plan.PlanItem.{PlanItem};
 ghost use Rattle.csl_render.specs.Expanded.{expanded, expanded_nodes, expanded_taken};
-ghost use Rattle.csl_render.specs.Plan.{HasTested, HasAllTested, AreInside, AreOfTaken};
-ghost use Rattle.csl_render.specs.VariableSet.{Has, IsWithin};
+ghost use Rattle.csl_render.specs.Plan.{DryView, HasTested, HasAllTested, AreInside, AreOfTaken};
+ghost use Rattle.csl_elements.specs.VariableSet.{Has, IsWithin};
 ghost use Rattle.csl_render.specs.Tree.{shows, node_output, choice_shows, choice_output};
 
 use crate::dry_run::DryRun;
@@ -20,11 +19,13 @@ use crate::element::{any_shows, nodes_info, render_with_delimiter};
 use crate::node::Node;
 use crate::plan::{NodeInfo, NodePlan};
 use crate::query::Query;
-use crate::variable_set::VariableSet;
+use crate::variable_set::{with_all, with_dates};
 use csl_context::{Context, RenderError};
 use csl_entry::EntryLike;
 use csl_nodes::{branch_holds, no_info, push_nothing, without_group_flag};
-use csl_style::{Choose, ChooseBranch, DateVariable, LayoutRenderingElement, Variable};
+use csl_style::{
+    Choose, ChooseBranch, DateVariable, LayoutRenderingElement, Variable, VariableSet,
+};
 use lit_model::Memory;
 
 /// Returns the nodes of the first branch whose conditions satisfy its match, else those of
@@ -89,7 +90,7 @@ fn taken_nodes<'s, T: EntryLike>(
         (expanded ctx.now.style (view_choose choose.now)) ctx.now.inherited ctx.now.state
         ≡ choice_output (render_input T.answers ctx.now) (expanded_taken ctx.now.style taken)
         ctx.now.inherited ctx.now.state) }
-    ensures plan { IfOk result (λ taken. (at : State) → (items : List PlanItem)
+    ensures plan { IfOk result (λ taken. (at : DryView) → (items : List PlanItem)
         → AreInside (render_input T.answers ctx.now) at ctx.now.state
         (expanded ctx.now.style (view_choose choose.now)) items
         → AreOfTaken (render_input T.answers ctx.now) at (expanded_taken ctx.now.style taken)
@@ -107,7 +108,7 @@ fn with_tested(set: VariableSet, tests: &Option<Vec<Variable>>) -> VariableSet
     ensures kept { IsWithin set result }
 {
     match tests {
-        Some(tests) => set.with_all(tests),
+        Some(tests) => with_all(set, tests),
         None => set,
     }
 }
@@ -119,7 +120,7 @@ fn with_tested_dates(set: VariableSet, tests: &Option<Vec<DateVariable>>) -> Var
     ensures kept { IsWithin set result }
 {
     match tests {
-        Some(tests) => set.with_dates(tests),
+        Some(tests) => with_dates(set, tests),
         None => set,
     }
 }

@@ -8,10 +8,10 @@ ghost use Rattle.csl_render.specs.DryRun.{Adds, IsCallInfo, nodes_at};
 ghost use Rattle.csl_render.specs.Plan.{dry_now};
 
 use crate::plan::{NodeInfo, PlanItem};
-use crate::variable_set::VariableSet;
 use csl_context::Context;
 use csl_entry::EntryLike;
 use csl_nodes::no_info;
+use csl_style::VariableSet;
 use lit_model::Memory;
 use std::collections::BTreeMap;
 use std::marker::Model;

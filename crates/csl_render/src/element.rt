@@ -17,11 +17,10 @@ use crate::node::Node;
 use crate::plan::{AskedNode, DryState, NodeInfo, NodePlan, inside_plan, next_plan};
 use crate::query::Query;
 use crate::render::RenderCsl;
-use crate::variable_set::VariableSet;
 use csl_context::{Context, RenderError};
 use csl_entry::EntryLike;
 use csl_nodes::{UsageInfo, add_child_info, no_info};
-use csl_style::{LayoutRenderingElement, RenderingElement, Variable};
+use csl_style::{LayoutRenderingElement, RenderingElement, Variable, VariableSet};
 use lit_model::Memory;
 
 impl RenderCsl for RenderingElement {
@@ -173,7 +172,7 @@ fn ask_node<'s, T: EntryLike>(
 ) -> Result<AskedNode, Memory>
     ensures { IfOk result (IsDryRunOf T.answers ctx.now (view_node node.now)) }
 {
-    let at = DryState::of(ctx)?;
+    let at = DryState::of(ctx);
     let mut run = DryRun::new(ctx);
     let info = node.node_info(&mut run)?;
     Ok(AskedNode::new(at, info.answer, run.into_items()))

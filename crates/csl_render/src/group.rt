@@ -58,7 +58,7 @@ impl Node for Group {
 fn ask_group<'s, T: EntryLike>(ctx: &Context<'s, T>, group: &'s Group) -> Result<AskedNode, Memory>
     ensures { IfOk result (IsDryRunOf T.answers ctx.now (view_group group.now)) }
 {
-    let at = DryState::of(ctx)?;
+    let at = DryState::of(ctx);
     let mut run = DryRun::new(ctx);
     let info = group.node_info(&mut run)?;
     Ok(AskedNode::new(at, info.answer, run.into_items()))

@@ -7,20 +7,19 @@ ghost use Rattle.csl_elements.specs.Names.{view_label};
 ghost use Rattle.csl_elements.specs.Node.{date, label, number};
 ghost use Rattle.csl_elements.specs.View.{view_date, view_number};
 ghost use Rattle.csl_render.specs.Expanded.{expanded};
-ghost use Rattle.csl_render.specs.VariableSet.{Has};
+ghost use Rattle.csl_elements.specs.VariableSet.{Has};
 
 use crate::dry_run::DryRun;
 use crate::node::Node;
 use crate::plan::{NodeInfo, NodePlan};
 use crate::query::Query;
-use crate::variable_set::VariableSet;
 use csl_context::{Context, RenderError};
 use csl_entry::EntryLike;
 use csl_nodes::{
     date_info, date_shows, label_info, number_info, number_shows, render_date, render_label,
     render_number,
 };
-use csl_style::{Date, Label, Number, Variable};
+use csl_style::{Date, Label, Number, Variable, VariableSet};
 use lit_model::Memory;
 
 impl Node for Number {

@@ -19,7 +19,7 @@ ghost use Rattle.csl_render.specs.Expanded.{expanded, expanded_nodes, expanded_t
 ghost use Rattle.csl_render.specs.Names.{Macros, author, has_variable, is_of_names, is_names_of, any_is_names_of, substitute_has_names_of, expanded_substitutes_of, standing_in, refuses_alone, is_refused, names_show, names_or_substitute_info, in_substitute, suppressing_from, boxed_substitute};
 ghost use Rattle.csl_nodes.specs.Text.{Appends, render_output};
 ghost use Rattle.csl_nodes.specs.Usage.{info_view};
-ghost use Rattle.csl_render.specs.Plan.{asks_for_author, dry_now, HasReadByNames, AreOfTaken, AreOfSubstitutes, IsInfoOfSubstitutes, IsPlanOf, HasPlansOf, HasPlansWithin};
+ghost use Rattle.csl_render.specs.Plan.{asks_for_author, dry_now, DryView, HasReadByNames, AreOfTaken, AreOfSubstitutes, IsInfoOfSubstitutes, IsPlanOf, HasPlansOf, HasPlansWithin};
 ghost use Rattle.csl_render.specs.Rendering.{with_whole_output};
 ghost use Rattle.csl_render.specs.Tree.{node_output, substitute_shows, substitute_info, substitute_output, output_until_text, first_substitute_output, choice_info, choice_shows, refused_in, names_output, shorthand_output};
 
@@ -28,7 +28,7 @@ use crate::element::{any_shows, nodes_info};
 use crate::node::Node;
 use crate::plan::{NodeInfo, NodePlan, inside_plan, next_plan};
 use crate::query::Query;
-use crate::variable_set::VariableSet;
+use crate::variable_set::with_names;
 use csl_context::{Context, RenderError};
 use csl_entry::{EntryLike, SpecialForm};
 use csl_names::{
@@ -36,7 +36,7 @@ use csl_names::{
     write_names, writes_no_name,
 };
 use csl_nodes::{UsageInfo, no_info, push_nothing, without_group_flag};
-use csl_style::{LayoutRenderingElement, NameVariable, Names, NamesParts, Variable};
+use csl_style::{LayoutRenderingElement, NameVariable, Names, NamesParts, Variable, VariableSet};
 use lit_model::Memory;
 
 /// A summary of the lists of a names node in a dry run.
@@ -143,11 +143,11 @@ fn substitute_nodes<'n, 's, T: EntryLike>(
         ≡ first_substitute_output (render_input T.answers ctx.now)
         (option_map (expand_substitute_nodes (macro_env ctx.now.style) (names_node names.now))
         (option_map (λ ns. view_nodes ns.now) result)) inh s }
-    ensures from_nodes { (at : State) → (items : List PlanItem)
+    ensures from_nodes { (at : DryView) → (items : List PlanItem)
         → AreOfTaken (render_input T.answers ctx.now) at (expanded_taken ctx.now.style result) items
         → AreOfSubstitutes (render_input T.answers ctx.now) at
         (expanded_substitutes ctx.now.style names.now) items }
-    ensures to_nodes { (at : State) → (items : List PlanItem)
+    ensures to_nodes { (at : DryView) → (items : List PlanItem)
         → AreOfSubstitutes (render_input T.answers ctx.now) at
         (expanded_substitutes ctx.now.style names.now) items
         → AreOfTaken (render_input T.answers ctx.now) at (expanded_taken ctx.now.style result) items }
@@ -273,7 +273,7 @@ fn read_by_names<'s, T: EntryLike>(ctx: &Context<'s, T>, names: &Names) -> Varia
     if asks_for_author(ctx.special_form()) {
         return VariableSet::all();
     }
-    VariableSet::new().with_names(&names.variable)
+    with_names(VariableSet::new(), &names.variable)
 }
 
 impl Node for Names {

@@ -1,20 +1,16 @@
 //! Plans. A plan is the result of a dry run of a node and of the nodes inside it. By its plan the
 //! node is rendered without another dry run (CSL 1.0.2, Group).
 
-ghost use Rattle.std.specs.Prelude.{◌≡◌, IfOk, IfSome, IsTrue, option_map};
+ghost use Rattle.std.specs.Prelude.{◌≡◌, ◌↔◌, IfSome, IsTrue, option_map};
 ghost use Rattle.csl_elements.specs.Node.{ExpandedNode, ExpandedNodes, expanded_node};
 ghost use Rattle.csl_context.specs.ContextView.{render_input};
 ghost use Rattle.csl_nodes.specs.Usage.{info_view, usage_flags_of};
-ghost use Rattle.csl_render.specs.Plan.{asks_for_dates, dry_now, AreAlikeOn, AreKept, answer_of, IsPlan, ArePlans};
+ghost use Rattle.csl_render.specs.Plan.{asks_for_dates, dry_now, dry_view, AreAlikeOn, answer_of, IsPlan, ArePlans};
 
-use crate::variable_set::VariableSet;
 use csl_context::Context;
 use csl_entry::{EntryLike, SpecialForm};
 use csl_nodes::UsageInfo;
-use csl_style::Variable;
-use lit_model::Memory;
-use std::collections::BTreeSet;
-use std::marker::Model;
+use csl_style::VariableSet;
 
 /// The result of a dry run of a node.
 #[derive(Clone, Copy)]
@@ -48,25 +44,11 @@ pub(crate) struct PlanItem {
 }
 
 /// The part of a context's state that dry runs read.
-#[derive(Drop)]
+#[derive(Clone, Copy)]
 pub(crate) struct DryState {
-    suppressed: BTreeSet<Variable>,
+    suppressed: VariableSet,
     /// Whether a date was rendered. It is `false` if dry runs do not ask.
     first_date_seen: bool,
-}
-
-impl Model for DryState {
-    ghost use Rattle.std.specs.Prelude.{false, None};
-    ghost use Rattle.csl_context.specs.State.{State};
-
-    ghost Value = { State };
-
-    ghost view = { λ d. record {
-      suppressed = d.suppressed.keys;
-      suppressing = false;
-      first_date_seen = d.first_date_seen;
-      first_names = None;
-    } };
 }
 
 /// Whether dry runs under the special form ask if a date was rendered.
@@ -90,43 +72,26 @@ fn date_seen<'s, T: EntryLike>(ctx: &Context<'s, T>) -> bool
     asks_for_dates(ctx.special_form()) && !ctx.peek_is_first_date()
 }
 
-/// Whether the second set has each variable of the first that was read.
-fn are_kept(read: VariableSet, first: &BTreeSet<Variable>, second: &BTreeSet<Variable>) -> bool
-    ensures { IsTrue result → AreKept read first.now.keys second.now.keys }
-{
-    if first.is_empty() {
-        return true;
-    }
-    for variable in first {
-        if read.contains(*variable) && !second.contains(variable) {
-            return false;
-        }
-    }
-    true
-}
-
 impl DryState {
-    /// Copies the part of the context's state that dry runs read.
-    pub(crate) fn of<'s, T: EntryLike>(ctx: &Context<'s, T>) -> Result<DryState, Memory>
-        ensures { IfOk result (λ at. at ≡ dry_now ctx.now) }
+    /// The part of the context's state that dry runs read.
+    pub(crate) fn of<'s, T: EntryLike>(ctx: &Context<'s, T>) -> DryState
+        ensures { dry_view result ≡ dry_now ctx.now }
     {
-        Ok(DryState {
-            suppressed: ctx.suppressed().clone()?,
+        DryState {
+            suppressed: VariableSet::of(ctx.suppressed()),
             first_date_seen: date_seen(ctx),
-        })
+        }
     }
 
     /// Whether dry runs that read these variables read the same of the context as of this state.
     #[inline(never)]
     pub(crate) fn is_alike<'s, T: EntryLike>(&self, read: VariableSet, ctx: &Context<'s, T>) -> bool
-        ensures { IsTrue result → AreAlikeOn
-            (render_input T.answers ctx.now) read self.now ctx.now.state }
+        ensures { IsTrue result ↔ AreAlikeOn
+            (render_input T.answers ctx.now) read (dry_view self.now) ctx.now.state }
     {
-        if self.first_date_seen != date_seen(ctx) {
-            return false;
-        }
-        let now = ctx.suppressed();
-        are_kept(read, &self.suppressed, now) && are_kept(read, now, &self.suppressed)
+        let now = DryState::of(ctx);
+        self.first_date_seen == now.first_date_seen
+            && self.suppressed.is_alike_on(read, now.suppressed)
     }
 }
 

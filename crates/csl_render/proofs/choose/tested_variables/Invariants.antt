@@ -1,9 +1,9 @@
 use Rattle.std.proofs.Common.{drop}
 use Rattle.csl_elements.specs.View.{view_branch}
 use Rattle.csl_entry.specs.Alike.{Each}
-use Rattle.csl_render.specs.declared.variable_set.VariableSet.{VariableSet}
+use Rattle.csl_elements.specs.declared.variable_set.VariableSet.{VariableSet}
 use Rattle.csl_render.specs.Plan.{HasTested, HasAllTested}
-use Rattle.csl_render.specs.VariableSet.{IsWithin}
+use Rattle.csl_elements.specs.VariableSet.{IsWithin}
 use Rattle.csl_render.proofs.choose.tested_variables.Given as goal
 
 -- a set around the set so far that has what the remaining branches test has what all test

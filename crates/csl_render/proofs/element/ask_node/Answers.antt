@@ -1,10 +1,10 @@
-use Rattle.std.proofs.Common.{subst, ◌∙◌}
+use Rattle.std.proofs.Common.{ap, subst, ◌∙◌}
 use Rattle.csl_elements.specs.Node.{expand}
 use Rattle.csl_elements.specs.View.{view_node}
 use Rattle.csl_style.specs.Expanded.{macro_env}
 use Rattle.csl_context.specs.ContextView.{render_input}
 use Rattle.csl_render.specs.DryRun.{Adds}
-use Rattle.csl_render.specs.Plan.{dry_now, IsInfo}
+use Rattle.csl_render.specs.Plan.{dry_now, dry_view, IsInfo}
 use Rattle.csl_render.proofs.Plans.{asked}
 use Rattle.csl_render.proofs.element.ask_node.Goals as goal
 
@@ -15,4 +15,4 @@ returns g c =
     let n = view_node c.args.node.now in
     let end = c.node_info.new.run in
     let found = subst (λ r. Adds (IsInfo (render_input answers r.now) (dry_now r.now) (expand (macro_env r.now.style) n) c.in_ok-info.info) r end) c.new-run.ensures c.in_ok-info.ensures in
-    asked answers now (expand (macro_env now.style) n) c.in_ok-info.info end c.new.result found (c.new.ensures.at ∙ c.in_ok-at.ensures) c.new.ensures.answer (c.new.ensures.inside ∙ c.into_items.ensures)
+    asked answers now (expand (macro_env now.style) n) c.in_ok-info.info end c.new.result found (ap dry_view c.new.ensures.at ∙ c.of-at.ensures) c.new.ensures.answer (c.new.ensures.inside ∙ c.into_items.ensures)

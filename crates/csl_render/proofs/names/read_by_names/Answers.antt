@@ -1,5 +1,5 @@
 use Rattle.csl_elements.specs.declared.taxonomy.Variable.TheVariants as variable
-use Rattle.csl_render.specs.VariableSet.{Has}
+use Rattle.csl_elements.specs.VariableSet.{Has}
 use Rattle.csl_render.proofs.VariableSets.{each_of}
 use Rattle.csl_render.proofs.names.read_by_names.Goals as goal
 

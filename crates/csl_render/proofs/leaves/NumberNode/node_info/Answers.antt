@@ -1,11 +1,11 @@
-use Rattle.std.proofs.Common.{subst, sym, ap, ◌∙◌}
+use Rattle.std.proofs.Common.{inl, refl, subst, sym, ap, ◌∙◌}
 use Rattle.csl_elements.specs.Node.{number}
 use Rattle.csl_elements.specs.View.{view_number}
 use Rattle.csl_elements.specs.Taxonomy.{variable_of}
 use Rattle.csl_context.specs.ContextView.{render_input}
 use Rattle.csl_nodes.specs.Numbers.{number_info}
 use Rattle.csl_render.specs.Expanded.{expanded}
-use Rattle.csl_render.specs.VariableSet.{Has}
+use Rattle.csl_elements.specs.VariableSet.{Has}
 use Rattle.csl_render.proofs.Plans.{leaf}
 use Rattle.csl_render.proofs.Reading.{number_info_same}
 use Rattle.csl_render.proofs.leaves.NumberNode.node_info.Goals as goal
@@ -16,7 +16,7 @@ returns g c =
     let now = run.now in
     let input = render_input g.T.EntryLike.answers in
     let n = view_number c.args.self.now in
-    let read = subst (Has c.with-read.result) c.from.ensures c.with-read.ensures.has in
+    let read = subst (Has c.with-read.result) c.from.ensures ((c.with-read.ensures c.from.result).1 (inl refl)) in
     leaf g.T.EntryLike.answers run (expanded now.style (number n)) c.new-2.result (λ s alike.
     let same = alike.1 (variable_of n.variable) (subst (λ set. Has set (variable_of n.variable)) (sym c.new-2.ensures.read) read) in
     c.new-2.ensures.answer ∙ c.in_ok-answer.ensures ∙ ap (λ b. number_info (input b) b.state n) c.context.ensures ∙ number_info_same (input now) now.state s n same)
