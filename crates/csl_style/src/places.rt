@@ -11,9 +11,9 @@ use csl_elements::CslMacro;
 use std::alloc::{AllocError, Global};
 use std::collections::{BTreeMap, HashMap};
 
-/// The most macros that a hash map holds. If their names are chosen to collide, a look-up is a scan
-/// of them. Published styles have at most 67 macros.
-const MOST_HASHED: usize = 256;
+/// The most macros that a hash map holds, as many as the largest published style has. If their names
+/// are chosen to collide, a look-up is a scan of them.
+const MOST_HASHED: usize = 67;
 
 /// The place of the first macro of each name. A hash map finds the macros of a usual style soonest.
 /// No choice of names makes an ordered map slow, so it holds those of a style with many.
