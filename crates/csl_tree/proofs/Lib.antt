@@ -31,3 +31,4 @@ pub mod Tags
 pub mod Pieces
 pub mod Nests
 pub mod ReadSoFar
+pub mod Theorems

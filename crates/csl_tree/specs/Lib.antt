@@ -18,3 +18,4 @@ pub mod Simplify
 pub mod Places
 pub mod NamesSearch
 pub mod Search
+pub mod Laws

@@ -2,6 +2,7 @@ use Rattle.std.proofs.Common.{rules, ◌≡◌, true, reverse, refl, sym, subst,
 use Rattle.std.specs.Prelude.{string_bytes, Some, None}
 use Rattle.csl_tree.specs.Reading.{IsReadTo, within_after_mark}
 use Rattle.csl_tree.proofs.ReadSoFar.{read_mark, read_all, refuse_mark, refuse_rest, mark_shortens, fits, fits_not, one_text}
+use Rattle.csl_tree.proofs.Theorems.{html_has_one_text}
 use Rattle.csl_tree.proofs.read.leaf_text_of_html.Goals as goal
 
 pub loop-mark-smaller : goal.loop-mark-smaller
@@ -48,13 +49,13 @@ pub returns-clause-refused : goal.returns-clause-refused
 returns-clause-refused c none = absurd (none _ (returns-clause-found c))
 
 pub returns-in_err-take-clause-unique : goal.returns-in_err-take-clause-unique
-returns-in_err-take-clause-unique c x y h k = one_text c.args.html.now x y h k
+returns-in_err-take-clause-unique c x y h k = html_has_one_text c.args.html.now x y h k
 
 pub returns-then-not-branch-clause-unique : goal.returns-then-not-branch-clause-unique
-returns-then-not-branch-clause-unique c x y h k = one_text c.args.html.now x y h k
+returns-then-not-branch-clause-unique c x y h k = html_has_one_text c.args.html.now x y h k
 
 pub returns-then-not-has_ended-clause-unique : goal.returns-then-not-has_ended-clause-unique
-returns-then-not-has_ended-clause-unique c x y h k = one_text c.args.html.now x y h k
+returns-then-not-has_ended-clause-unique c x y h k = html_has_one_text c.args.html.now x y h k
 
 pub returns-clause-unique : goal.returns-clause-unique
-returns-clause-unique c x y h k = one_text c.args.html.now x y h k
+returns-clause-unique c x y h k = html_has_one_text c.args.html.now x y h k

@@ -3,8 +3,8 @@ use Rattle.csl_tree.specs.Tree.{tree, row}
 use Rattle.csl_tree.specs.Simplify.{simplify_fully_after, is_normal, normal_form}
 use Rattle.csl_tree.specs.declared.elem.ElemChildren.{ElemChildren}
 use Rattle.csl_tree.proofs.TreeTokens.{tree_out}
-use Rattle.csl_tree.proofs.NormalForms.{ends_normal, end_equal}
 use Rattle.csl_tree.proofs.OnePass.{one_pass}
+use Rattle.csl_tree.proofs.Theorems.{normal_forms_are_normal, normal_forms_tell_styled_values}
 use Rattle.csl_tree.proofs.simplify.simplify_fully.Goals as goal
 
 pub returns : goal.returns
@@ -12,4 +12,4 @@ returns c =
     let old = tree c.args.children.now in
     let new : ElemChildren = record { 0 = c.simplify_fully_into.new.simplified } in
     let full : tree new ≡ normal_form old = tree_out new ∙ c.in_ok-simplify_fully_into.ensures.ok ∙ ap (λ l. simplify_fully_after (row l) old) c.new-simplified.ensures.items ∙ one_pass old in
-    record { rounds = full; normal = ap is_normal full ∙ ends_normal old; tells = λ u h k. let both = end_equal old u h k in (λ e. both.0 (sym full ∙ e), λ e. full ∙ both.1 e) }
+    record { rounds = full; normal = ap is_normal full ∙ normal_forms_are_normal old; tells = λ u h k. let both = normal_forms_tell_styled_values old u h k in (λ e. both.0 (sym full ∙ e), λ e. full ∙ both.1 e) }
