@@ -4,6 +4,7 @@ use crate::cite::{CITE, properties, special_form, start};
 use crate::entry::entry;
 use crate::fault::Fault;
 use crate::form::Forms;
+use crate::missing::add_missing;
 use crate::nodes::{layout_line, node_line};
 use crate::scene::Scene;
 use crate::style::style;
@@ -37,6 +38,8 @@ pub enum Question {
     Errors,
     /// Whether the entry and the one beside it are alike, and the HTML of both.
     Pair,
+    /// The terms that the layout asks for and that no locale has.
+    Missing,
 }
 
 /// The lines that a row consists of. All but those of the style are parsed for each question.
@@ -130,6 +133,12 @@ impl<'r> Row<'r> {
             Question::Tests => scene.add_tests(words),
             Question::Errors => scene.add_errors(words),
             Question::Pair => self.add_pair(words, scene),
+            Question::Missing => match scene.element {
+                RenderingElement::Layout(layout) => {
+                    add_missing(words, self.alloc, scene.style, layout)
+                }
+                _ => Err(Fault::Wrong("missing terms need a layout")),
+            },
         }
     }
 
@@ -184,6 +193,10 @@ impl<'r> Row<'r> {
                 let pair = cite_pair(self.alloc, style, cite_props, work, &right)?;
                 add_pair_words(words, &pair)
             }
+            (Question::Missing, _) => match style.layout(scope) {
+                Some(layout) => add_missing(words, self.alloc, style, layout),
+                None => Ok(words.push_str("(no bibliography)")?),
+            },
             _ => Err(Fault::Wrong("this needs a layout or a node line")),
         }
     }

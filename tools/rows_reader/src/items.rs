@@ -15,7 +15,7 @@ use crate::rows::printed;
 use crate::scene::Scene;
 use crate::style::style;
 use crate::work::Work;
-use csl::style::{Layout, RenderingElement, Text};
+use csl::style::{Layout, OtherTerm, RenderingElement, Term, Text};
 use csl::{
     BufWriteFormat, CitationNumber, CiteProperties, DisambiguateState, ElemChildren,
     InstanceContext, LeftState, Scope, Style, bibliography_entry, cite, is_web_address, sort_key,
@@ -152,16 +152,23 @@ fn reply_around(
     Ok(())
 }
 
-/// Prints the term that a layout names and no locale has, if there is one.
-fn reply_missing_term(
+/// Prints each term that a layout asks for, that no locale has, and that then prints nothing. Eras
+/// print in English, and no cite here has a locator.
+fn reply_missing_terms(
     rt: &impl Print,
     alloc: Global,
     style: &Style,
     layout: &Layout,
 ) -> Result<(), Fault> {
-    if let Some((term, _)) = style.missing_term(layout) {
+    for (term, _) in &style.missing_terms(alloc, layout)? {
+        if matches!(
+            term,
+            Term::Locator(_) | Term::Other(OtherTerm::Ad | OtherTerm::Bc)
+        ) {
+            continue;
+        }
         if let Some(name) = term.name() {
-            return reply(rt, alloc, "missing-term", name);
+            reply(rt, alloc, "missing-term", name)?;
         }
     }
     Ok(())
@@ -210,7 +217,7 @@ impl Items {
                 self.is_aligned = inside.value("second-field-align").is_some();
                 reply_around(rt, &style, (name, layout), inside)?;
             }
-            reply_missing_term(rt, alloc, &style, layout)?;
+            reply_missing_terms(rt, alloc, &style, layout)?;
             let keys = keys(&forms, scope)?;
             // (those of the bibliography come last, and sort the list)
             if !keys.is_empty() {

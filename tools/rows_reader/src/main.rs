@@ -12,6 +12,7 @@ mod entry;
 mod fault;
 mod form;
 mod items;
+mod missing;
 mod name_nodes;
 mod names;
 mod nodes;

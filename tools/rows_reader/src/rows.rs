@@ -291,6 +291,7 @@ fn question<'l>(
         "dry" => (Question::Dry, rest),
         "tests" => (Question::Tests, rest),
         "error" => (Question::Errors, rest),
+        "missing" => (Question::Missing, rest),
         "pair" => (Question::Pair, unquoted(rest)),
         "shows" | "hides" => {
             let Some(variable) = Variable::from_name(rest) else {
