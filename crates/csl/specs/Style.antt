@@ -1,6 +1,9 @@
 -- The definitions of `csl_style`, and those of `csl_elements` that it hands on.
 pub mod declared
 pub mod contracts
+pub use Rattle.csl_elements.specs.LocatorNames
+pub use Rattle.csl_elements.specs.TermNames
+pub use Rattle.csl_elements.specs.VariableNames
 pub use Rattle.csl_style.specs.Calls
 pub use Rattle.csl_style.specs.Constructors
 pub use Rattle.csl_style.specs.Cyclic
@@ -15,15 +18,17 @@ pub use Rattle.csl_style.specs.Inside
 pub use Rattle.csl_style.specs.Locale
 pub use Rattle.csl_style.specs.MacroCalls
 pub use Rattle.csl_style.specs.Missing
+pub use Rattle.csl_style.specs.MissingTerm
 pub use Rattle.csl_style.specs.NameOptions
 pub use Rattle.csl_style.specs.Named
 pub use Rattle.csl_style.specs.NamedSet
-pub use Rattle.csl_style.specs.NamedWalk
 pub use Rattle.csl_style.specs.Names
 pub use Rattle.csl_style.specs.NamesParts
 pub use Rattle.csl_style.specs.Node
 pub use Rattle.csl_style.specs.OfCitation
 pub use Rattle.csl_style.specs.Ordinal
+pub use Rattle.csl_style.specs.OverCalls
+pub use Rattle.csl_style.specs.RenderedSize
 pub use Rattle.csl_style.specs.Scopes
 pub use Rattle.csl_style.specs.Size
 pub use Rattle.csl_style.specs.Style

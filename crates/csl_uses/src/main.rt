@@ -3,6 +3,7 @@
 //! - `book`: an entry that is built field by field, and its label;
 //! - `film`: a caller's own type as an entry;
 //! - `cite`: a style that is built as a value, its cites and its bibliography;
+//! - `missing`: the first word that a style lacks for its cites;
 //! - `in_text`: cites in the running text, in the order of their sort keys;
 //! - `namesakes`: cites that are disambiguated by more of their names;
 //! - `list`: a reference list that renders again only the lines that change;
@@ -24,6 +25,7 @@ mod fold;
 mod in_text;
 mod links;
 mod list;
+mod missing;
 mod namesakes;
 mod page;
 mod pair;
@@ -84,13 +86,16 @@ fn show_cites<T: EntryLike>(
     Ok(())
 }
 
-/// Prints the cites of the book, of a page of it, of the film, and of a book of three authors.
+/// Prints the word that the style lacks, and the cites of the book, of a page of it, of the film,
+/// and of a book of three authors.
 fn show_styled(
     rt: &(impl Print + AllocGlobal),
     style: &Style,
     book: &Entry,
     film: &Film,
 ) -> Result<(), UseError> {
+    let lacking = missing::missing_word(style).unwrap_or("none");
+    println!(rt; "missing word: {lacking}")?;
     show_cites(rt, style, book)?;
     println!(rt;
         "cite of a page: {}",
