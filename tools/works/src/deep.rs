@@ -1,10 +1,10 @@
 //! Works over deep values. Each returns a count.
 
 use crate::bench::cites::year;
-use crate::bench::render::text_size;
+use crate::bench::render::{named_count, text_size};
 use crate::bench::styles::call;
 use crate::error::WorkError;
-use crate::nodes::{letter, names_or, style};
+use crate::nodes::{letter, names_or, style, title};
 use crate::refuse::text_of;
 use crate::trees::{elem, texts};
 use csl::literature::{Date, EntryType, FormatString};
@@ -143,6 +143,16 @@ fn of_style(alloc: Global, name: &str, depth: usize) -> Result<usize, WorkError>
     Ok(usize::from(style.expanded_within(style.citation(), 20_000, 64)))
 }
 
+/// Makes a style whose layout is `depth` nested groups around a title, and counts the texts that the
+/// layout names.
+fn of_named(alloc: Global, depth: usize) -> Result<usize, WorkError> {
+    let mut nodes = vec![in alloc; title()]?;
+    for _ in 0..depth {
+        nodes = vec![in alloc; Group::new(nodes).into()]?;
+    }
+    named_count(alloc, &style(alloc, Vec::new(alloc), nodes)?)
+}
+
 /// Does the work with this name at a depth, and returns its count.
 pub fn count(alloc: Global, name: &str, depth: usize) -> Result<usize, WorkError> {
     match name {
@@ -156,6 +166,7 @@ pub fn count(alloc: Global, name: &str, depth: usize) -> Result<usize, WorkError
         "style-groups" | "style-choices" | "style-names" | "style-macro" => {
             of_style(alloc, name, depth)
         }
+        "named" => of_named(alloc, depth),
         _ => Err(WorkError::Unexpected("no such work")),
     }
 }
