@@ -33,13 +33,13 @@ impl ListStyle<'_> {
     /// Writes `et al.` if the style has a text for it. There are `names` names before it, and
     /// `shown` of them are shown.
     fn push_et_al<T>(
-        self,
+        &self,
         ctx: &mut Context<'_, T>,
         names: usize,
         shown: usize,
     ) -> Result<(), RenderError>
-        ensures { Runs (with_pieces (et_al_pieces (list_style_view self.entry) names shown
-            (list_style_view self.entry).et_al)) result ctx.old ctx.new }
+        ensures { Runs (with_pieces (et_al_pieces (list_style_view self.now) names shown
+            (list_style_view self.now).et_al)) result ctx.old ctx.new }
     {
         match self
             .style
@@ -57,8 +57,8 @@ impl ListStyle<'_> {
     }
 
     /// The last form, if the list keeps its last name.
-    fn last_form(self, forms: &[Option<DisambiguatedNameForm>]) -> Option<DisambiguatedNameForm>
-        ensures { result ≡ last_form (list_style_view self.entry) forms.now }
+    fn last_form(&self, forms: &[Option<DisambiguatedNameForm>]) -> Option<DisambiguatedNameForm>
+        ensures { result ≡ last_form (list_style_view self.now) forms.now }
     {
         if self.use_last && !forms.is_empty() {
             form_at(forms, forms.len() - 1)
@@ -69,13 +69,13 @@ impl ListStyle<'_> {
 
     /// Writes the delimiter, an ellipsis and the last name.
     fn push_kept_last<T>(
-        self,
+        &self,
         ctx: &mut Context<'_, T>,
         persons: &[Cow<'_, Person>],
         form: DisambiguatedNameForm,
     ) -> Result<(), RenderError>
         ensures { Runs (λ now. with_pieces (kept_last now.inherited
-            (list_style_view self.entry) (map (λ p. person_view (cow_value p)) persons.now) form
+            (list_style_view self.now) (map (λ p. person_view (cow_value p)) persons.now) form
             (slice_get (map (λ p. person_view (cow_value p)) persons.now) (length
             (map (λ p. person_view (cow_value p)) persons.now) - 1))) now) result ctx.old ctx.new }
     {
@@ -93,16 +93,16 @@ impl ListStyle<'_> {
     /// Writes the end of a list that leaves names out. `names` is the place of the first name
     /// without a form.
     pub(crate) fn push_cut_end<T>(
-        self,
+        &self,
         ctx: &mut Context<'_, T>,
         names: usize,
         forms: &[Option<DisambiguatedNameForm>],
         persons: &[Cow<'_, Person>],
     ) -> Result<(), RenderError>
         ensures { Runs (λ now. with_pieces (cut_end now.inherited
-            (list_style_view self.entry) names forms.now
+            (list_style_view self.now) names forms.now
             (map (λ p. person_view (cow_value p)) persons.now)
-            (last_form (list_style_view self.entry) forms.now)) now) result ctx.old ctx.new }
+            (last_form (list_style_view self.now) forms.now)) now) result ctx.old ctx.new }
     {
         match self.last_form(forms) {
             Some(form) => self.push_kept_last(ctx, persons, form),

@@ -63,12 +63,12 @@ fn shorten(
 impl NameStyle<'_> {
     /// Writes the given name, if there is one.
     fn push_given<T>(
-        self,
+        &self,
         ctx: &mut Context<'_, T>,
         person: &Person,
         form: DisambiguatedNameForm,
     ) -> Result<(), RenderError>
-        ensures { Runs (with_pieces (given_word (name_style_view self.entry) form
+        ensures { Runs (with_pieces (given_word (name_style_view self.now) form
             (person_view person.now)))
             result ctx.old ctx.new }
     {
@@ -83,15 +83,15 @@ impl NameStyle<'_> {
 
     /// Writes the shortened given name.
     fn push_short<T>(
-        self,
+        &self,
         ctx: &mut Context<'_, T>,
         person: &Person,
         form: DisambiguatedNameForm,
         text: &str,
     ) -> Result<(), RenderError>
         ensures { Runs (with_pieces (word (initialized_given text.now
-            (name_style_view self.entry).hyphen form (given_or_empty (person_view person.now)))
-            (name_style_view self.entry).given.formatting ∷ [])) result ctx.old ctx.new }
+            (name_style_view self.now).hyphen form (given_or_empty (person_view person.now)))
+            (name_style_view self.now).given.formatting ∷ [])) result ctx.old ctx.new }
     {
         let short = shorten(ctx.alloc(), person, form, text, self.hyphen);
         let short = ctx.attempt(short)?;
@@ -101,12 +101,12 @@ impl NameStyle<'_> {
     /// Writes the given part's prefix, the given name and, after a gap, the person's prefix, all in
     /// the given part's formatting.
     pub(crate) fn push_given_block<T>(
-        self,
+        &self,
         ctx: &mut Context<'_, T>,
         person: &Person,
         form: DisambiguatedNameForm,
     ) -> Result<(), RenderError>
-        ensures { Runs (with_pieces (given_block (name_style_view self.entry) form
+        ensures { Runs (with_pieces (given_block (name_style_view self.now) form
             (person_view person.now)))
             result ctx.old ctx.new }
     {

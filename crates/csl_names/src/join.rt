@@ -48,9 +48,9 @@ fn and_word(style: &Style, and: Option<NameAnd>) -> Option<&str>
 impl ListStyle<'_> {
     /// Writes the separator before the last name, which is at `place`: the delimiter or a space,
     /// the word and a gap; or the delimiter alone if there is no word.
-    fn push_last_join<T>(self, ctx: &mut Context<'_, T>, place: usize) -> Result<(), RenderError>
-        ensures { Runs (with_pieces (last_name_separator (list_style_view self.entry) place
-            (list_style_view self.entry).and_word)) result ctx.old ctx.new }
+    fn push_last_join<T>(&self, ctx: &mut Context<'_, T>, place: usize) -> Result<(), RenderError>
+        ensures { Runs (with_pieces (last_name_separator (list_style_view self.now) place
+            (list_style_view self.now).and_word)) result ctx.old ctx.new }
     {
         match and_word(self.style, self.and) {
             None => push_word(ctx, self.delimiter, no_formatting()),
@@ -70,13 +70,13 @@ impl ListStyle<'_> {
     /// Writes the separator before the name at `place`, and nothing before the first name. `ends`
     /// is the number of names if all are shown.
     pub(crate) fn push_join<T>(
-        self,
+        &self,
         ctx: &mut Context<'_, T>,
         ends: Option<usize>,
         place: usize,
     ) -> Result<(), RenderError>
         requires { place < usize.MAX }
-        ensures { Runs (with_pieces (name_separator (list_style_view self.entry) ends place))
+        ensures { Runs (with_pieces (name_separator (list_style_view self.now) ends place))
             result ctx.old ctx.new }
     {
         if place == 0 {

@@ -77,14 +77,14 @@ pub(crate) fn is_reversed(order: Option<NameAsSortOrder>, place: usize) -> bool
 impl ListStyle<'_> {
     /// Writes one name in an element of its own.
     pub(crate) fn push_whole<T>(
-        self,
+        &self,
         ctx: &mut Context<'_, T>,
         person: &Person,
         form: DisambiguatedNameForm,
         reversed: bool,
         place: usize,
     ) -> Result<(), RenderError>
-        ensures { Runs (with_whole (list_style_view self.entry) form reversed place
+        ensures { Runs (with_whole (list_style_view self.now) form reversed place
             (person_view person.now))
             result ctx.old ctx.new }
     {
@@ -97,14 +97,14 @@ impl ListStyle<'_> {
     /// Writes the names up to the first without a form. `ends` is the number of names if all are
     /// shown.
     fn push_names<T>(
-        self,
+        &self,
         ctx: &mut Context<'_, T>,
         ends: Option<usize>,
         forms: &[Option<DisambiguatedNameForm>],
         persons: &[Cow<'_, Person>],
     ) -> Result<(), RenderError>
         ensures { Runs (λ now. with_pieces (names_from now.inherited
-            (list_style_view self.entry) ends
+            (list_style_view self.now) ends
             forms.now 0 (map (λ p. person_view (cow_value p)) persons.now)) now) result ctx.old
             ctx.new }
     {
@@ -127,12 +127,12 @@ impl ListStyle<'_> {
     /// Writes a list of names.
     #[tactic(auto, using(crate::proofs::Pieces::written_append))]
     pub(crate) fn push_list<T>(
-        self,
+        &self,
         ctx: &mut Context<'_, T>,
         persons: &[Cow<'_, Person>],
         forms: &[Option<DisambiguatedNameForm>],
     ) -> Result<(), RenderError>
-        ensures { Runs (with_names (list_style_view self.entry)
+        ensures { Runs (with_names (list_style_view self.now)
             (map (λ p. person_view (cow_value p)) persons.now) forms.now) result ctx.old ctx.new }
     {
         match first_absent(forms) {

@@ -31,9 +31,9 @@ pub(crate) struct NameStyle<'s> {
 
 impl NameStyle<'_> {
     /// The demoted particle, if there is one.
-    fn demoted_particle<'p>(self, person: &'p Person) -> Option<&'p str>
+    fn demoted_particle<'p>(&self, person: &'p Person) -> Option<&'p str>
         ensures { option_map (λ t. t.now) result
-            ≡ demoted_particle (name_style_view self.entry) (person_view person.now) }
+            ≡ demoted_particle (name_style_view self.now) (person_view person.now) }
     {
         if self.demotes {
             person.name_particle()
@@ -43,8 +43,8 @@ impl NameStyle<'_> {
     }
 
     /// The family name that comes first, without a demoted particle.
-    fn leading_name<'p>(self, person: &'p Person) -> &'p str
-        ensures { result.now ≡ leading_name (name_style_view self.entry) (person_view person.now) }
+    fn leading_name<'p>(&self, person: &'p Person) -> &'p str
+        ensures { result.now ≡ leading_name (name_style_view self.now) (person_view person.now) }
     {
         if self.demotes {
             person.name_without_particle()
@@ -56,12 +56,12 @@ impl NameStyle<'_> {
     /// Writes the given name after a family name that comes first, with separator, demoted particle
     /// and given suffix. Writes nothing if there is no given name.
     fn push_given_after<T>(
-        self,
+        &self,
         ctx: &mut Context<'_, T>,
         person: &Person,
         form: DisambiguatedNameForm,
     ) -> Result<(), RenderError>
-        ensures { Runs (with_pieces (given_after_family (name_style_view self.entry) form
+        ensures { Runs (with_pieces (given_after_family (name_style_view self.now) form
             (person_view person.now) (person_view person.now).given_name)) result ctx.old ctx.new }
     {
         match &person.given_name {
@@ -78,12 +78,12 @@ impl NameStyle<'_> {
     /// Writes a name that begins with the family name.
     #[tactic(auto, using(crate::proofs::Pieces::written_append))]
     fn push_family_first<T>(
-        self,
+        &self,
         ctx: &mut Context<'_, T>,
         person: &Person,
         form: DisambiguatedNameForm,
     ) -> Result<(), RenderError>
-        ensures { Runs (with_pieces (family_first (name_style_view self.entry) form
+        ensures { Runs (with_pieces (family_first (name_style_view self.now) form
             (person_view person.now)))
             result ctx.old ctx.new }
     {
@@ -95,11 +95,11 @@ impl NameStyle<'_> {
     /// Writes the suffix of a person after a gap. If it wants a comma, the separator is before the
     /// gap.
     fn push_suffix_after<T>(
-        self,
+        &self,
         ctx: &mut Context<'_, T>,
         person: &Person,
     ) -> Result<(), RenderError>
-        ensures { Runs (with_pieces (suffix_after_name (name_style_view self.entry)
+        ensures { Runs (with_pieces (suffix_after_name (name_style_view self.now)
             (person_view person.now).comma_suffix (person_view person.now).suffix)) result ctx.old
             ctx.new }
     {
@@ -118,12 +118,12 @@ impl NameStyle<'_> {
     /// Writes a name that begins with the given name.
     #[tactic(auto, using(crate::proofs::Pieces::written_append))]
     fn push_given_first<T>(
-        self,
+        &self,
         ctx: &mut Context<'_, T>,
         person: &Person,
         form: DisambiguatedNameForm,
     ) -> Result<(), RenderError>
-        ensures { Runs (with_pieces (given_first (name_style_view self.entry) form
+        ensures { Runs (with_pieces (given_first (name_style_view self.now) form
             (person_view person.now)))
             result ctx.old ctx.new }
     {
@@ -137,8 +137,8 @@ impl NameStyle<'_> {
     }
 
     /// Writes a name in a Chinese, Japanese or Korean script, with no gap between its parts.
-    fn push_cjk<T>(self, ctx: &mut Context<'_, T>, person: &Person) -> Result<(), RenderError>
-        ensures { Runs (with_pieces (cjk_name (name_style_view self.entry)
+    fn push_cjk<T>(&self, ctx: &mut Context<'_, T>, person: &Person) -> Result<(), RenderError>
+        ensures { Runs (with_pieces (cjk_name (name_style_view self.now)
             (person_view person.now)))
             result ctx.old ctx.new }
     {
@@ -151,11 +151,11 @@ impl NameStyle<'_> {
 
     /// Writes the name of an institution. In a sort key it has no article and no affixes.
     fn push_institution<T>(
-        self,
+        &self,
         ctx: &mut Context<'_, T>,
         person: &Person,
     ) -> Result<(), RenderError>
-        ensures { Runs (with_pieces (institution (name_style_view self.entry)
+        ensures { Runs (with_pieces (institution (name_style_view self.now)
             (person_view person.now)))
             result ctx.old ctx.new }
     {
@@ -167,13 +167,13 @@ impl NameStyle<'_> {
 
     /// Writes a name with its given name.
     fn push_long<T>(
-        self,
+        &self,
         ctx: &mut Context<'_, T>,
         person: &Person,
         form: DisambiguatedNameForm,
         reversed: bool,
     ) -> Result<(), RenderError>
-        ensures { Runs (with_pieces (long_name (name_style_view self.entry) form reversed
+        ensures { Runs (with_pieces (long_name (name_style_view self.now) form reversed
             (person_view person.now))) result ctx.old ctx.new }
     {
         if person.is_cjk() {
@@ -187,13 +187,13 @@ impl NameStyle<'_> {
 
     /// Writes one name. Its gaps depend on the whole text of the innermost open part.
     pub(crate) fn push_name<T>(
-        self,
+        &self,
         ctx: &mut Context<'_, T>,
         person: &Person,
         form: DisambiguatedNameForm,
         reversed: bool,
     ) -> Result<(), RenderError>
-        ensures { Runs (with_pieces (one_name (name_style_view self.entry) form reversed
+        ensures { Runs (with_pieces (one_name (name_style_view self.now) form reversed
             (person_view person.now))) result ctx.old ctx.new }
     {
         if person.is_institutional() {

@@ -4,4 +4,5 @@ pub(crate) mod forms;
 pub(crate) mod kept;
 pub(crate) mod lists;
 pub(crate) mod node;
+pub(crate) mod options;
 pub(crate) mod written;

@@ -20,11 +20,11 @@ pub(crate) struct PartStyle<'s> {
 impl PartStyle<'_> {
     /// Writes a text as this part of a name. The suffix is outside the part's formatting.
     pub(crate) fn push_part<T>(
-        self,
+        &self,
         ctx: &mut Context<'_, T>,
         text: &str,
     ) -> Result<(), RenderError>
-        ensures { Runs (with_pieces (part_text (part_style_view self.entry) text.now))
+        ensures { Runs (with_pieces (part_text (part_style_view self.now) text.now))
             result ctx.old ctx.new }
     {
         push_optional(ctx, self.prefix, self.formatting)?;

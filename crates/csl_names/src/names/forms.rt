@@ -18,8 +18,8 @@ use lit_model::Memory;
 use std::alloc::Global;
 
 /// The form of each name that is shown.
-pub(crate) fn default_form(options: NameOptions<'_>) -> DisambiguatedNameForm
-    ensures { result ≡ default_form (complete_options options.entry) }
+pub(crate) fn default_form(options: &NameOptions<'_>) -> DisambiguatedNameForm
+    ensures { result ≡ default_form (complete_options options.now) }
 {
     let initialized = options.initialize && options.initialize_with.is_some();
     match options.form {
@@ -43,12 +43,12 @@ pub(crate) fn default_form(options: NameOptions<'_>) -> DisambiguatedNameForm
 
 /// The form of the name at `place` in a list of `len` names. A name that is left out has none.
 fn form_in(
-    options: NameOptions<'_>,
+    options: &NameOptions<'_>,
     later: bool,
     len: usize,
     place: usize,
 ) -> Option<DisambiguatedNameForm>
-    ensures { result ≡ form_in (complete_options options.entry) later len place }
+    ensures { result ≡ form_in (complete_options options.now) later len place }
 {
     if options.is_suppressed(place, len, later) {
         None
@@ -60,12 +60,12 @@ fn form_in(
 /// The form of each name in a list of `len` names.
 fn list_forms(
     alloc: Global,
-    options: NameOptions<'_>,
+    options: &NameOptions<'_>,
     later: bool,
     len: usize,
 ) -> Result<Vec<Option<DisambiguatedNameForm>>, Memory>
     ensures { IfOk result (λ forms. forms.items
-        ≡ list_forms (complete_options options.entry) later len) }
+        ≡ list_forms (complete_options options.now) later len) }
 {
     let forms = (0..len)
         .map(|place| form_in(options, later, len, place))
@@ -76,12 +76,12 @@ fn list_forms(
 /// The form of each name of each list.
 pub(crate) fn default_forms(
     alloc: Global,
-    options: NameOptions<'_>,
+    options: &NameOptions<'_>,
     later: bool,
     lists: &[PersonList<'_>],
 ) -> Result<Vec<Vec<Option<DisambiguatedNameForm>>>, Memory>
     ensures { IfOk result (λ forms. map (λ f. f.items) forms.items
-        ≡ default_forms (complete_options options.entry) later (map list_of lists.now)) }
+        ≡ default_forms (complete_options options.now) later (map list_of lists.now)) }
 {
     let mut forms = Vec::with_capacity(alloc, lists.len())?;
     for list in lists {
@@ -92,8 +92,8 @@ pub(crate) fn default_forms(
 }
 
 /// The number of names in a list of `len` that are not left out.
-fn shown_count(options: NameOptions<'_>, later: bool, len: usize) -> usize
-    ensures { result ≡ shown_count (complete_options options.entry) later len }
+fn shown_count(options: &NameOptions<'_>, later: bool, len: usize) -> usize
+    ensures { result ≡ shown_count (complete_options options.now) later len }
 {
     (0..len)
         .filter(|place| !options.is_suppressed(*place, len, later))
@@ -101,8 +101,8 @@ fn shown_count(options: NameOptions<'_>, later: bool, len: usize) -> usize
 }
 
 /// The number of names in all lists that are not left out, at most `usize::MAX`.
-pub(crate) fn count_of(options: NameOptions<'_>, later: bool, lists: &[PersonList<'_>]) -> usize
-    ensures { result ≡ saturated_count (count_of (complete_options options.entry) later
+pub(crate) fn count_of(options: &NameOptions<'_>, later: bool, lists: &[PersonList<'_>]) -> usize
+    ensures { result ≡ saturated_count (count_of (complete_options options.now) later
         (map list_of lists.now)) }
 {
     let mut count: usize = 0;

@@ -18,6 +18,7 @@ ghost use Rattle.csl_names.specs.PersonLists.{list_of};
 use crate::names::forms::count_of;
 use crate::names::kept::forms_in;
 use crate::names::lists::PersonList;
+use crate::names::options::{merged_delimiter, merged_options};
 use crate::names::written::NamesStyle;
 use csl_context::{Context, Mark, RenderError};
 use csl_style::{Display, EtAl, InheritedNameOptions, Name, NameForm, NameVariable, NamesParts};
@@ -54,25 +55,24 @@ fn lists_meta(alloc: Global, lists: &[PersonList<'_>]) -> Result<ElemMeta, Memor
 /// The settings for the lists of a names node. The last two arguments replace a name child and an
 /// Et-al that the node lacks.
 fn names_style<'n>(
-    parts: NamesParts<'n>,
-    inherited: InheritedNameOptions<'n>,
+    parts: &NamesParts<'n>,
+    inherited: &InheritedNameOptions<'n>,
     missing_name: &'n Name,
     missing_et_al: &'n EtAl,
 ) -> NamesStyle<'n>
     requires name { view_name missing_name.now ≡ default_name }
     requires et_al { view_et_al missing_et_al.now ≡ default_et_al }
-    ensures { names_style_view result ≡ names_style (parts_node parts.entry)
-        (inherited_options inherited.entry) }
+    ensures { names_style_view result ≡ names_style (parts_node parts.now)
+        (inherited_options inherited.now) }
 {
     let name = parts.name().unwrap_or(missing_name);
-    let base = parts.options.or(inherited);
     let own_delimiter = name.options.names_delimiter.as_deref().or(parts.delimiter);
     NamesStyle {
         name,
-        options: name.options.apply(base).name_options(),
+        options: merged_options(&name.options, &parts.options, inherited),
         et_al: parts.et_al().unwrap_or(missing_et_al),
         label: parts.label(),
-        delimiter: own_delimiter.unwrap_or(base.names_delimiter()),
+        delimiter: own_delimiter.unwrap_or(merged_delimiter(&parts.options, inherited)),
     }
 }
 
@@ -87,21 +87,21 @@ fn push_count<T>(ctx: &mut Context<'_, T>, count: usize) -> Result<(), RenderErr
 /// Writes the lists, each name in its form. Keeps these forms if the state keeps none yet.
 fn push_all<T>(
     ctx: &mut Context<'_, T>,
-    style: NamesStyle<'_>,
+    style: &NamesStyle<'_>,
     variables: &[NameVariable],
     lists: &[PersonList<'_>],
 ) -> Result<(), RenderError>
     ensures { Runs (λ now. record now {
       inner = with_lists now.style
-          (is_some now.sorting) (names_style_view style.entry) now.inherited true 0
-          (forms_in now.cite variables.now (names_style_view style.entry).options
+          (is_some now.sorting) (names_style_view style.now) now.inherited true 0
+          (forms_in now.cite variables.now (names_style_view style.now).options
           (map list_of lists.now)).lists (map list_of lists.now) now.inner;
       state = with_first_forms (forms_in now.cite variables.now
-          (names_style_view style.entry).options
+          (names_style_view style.now).options
           (map list_of lists.now)) now.state;
     }) result ctx.old ctx.new }
 {
-    let forms = forms_in(ctx, variables, style.options, lists)?;
+    let forms = forms_in(ctx, variables, &style.options, lists)?;
     style.push_lists(ctx, lists, forms.name_forms())?;
     ctx.keep_first_name_properties(forms);
     Ok(())
@@ -111,26 +111,26 @@ fn push_all<T>(
 /// not counted, if the state keeps none yet.
 fn push_body<T>(
     ctx: &mut Context<'_, T>,
-    style: NamesStyle<'_>,
+    style: &NamesStyle<'_>,
     variables: &[NameVariable],
     lists: &[PersonList<'_>],
 ) -> Result<(), RenderError>
     requires { OnFalse ctx.old.failed (ctx.old.inner ≡ []) }
     ensures { Runs (λ now. record now {
       inner =
-          names_body (names_style_view style.entry).options.form now.style
+          names_body (names_style_view style.now).options.form now.style
           (is_some now.sorting) now.cite
-          variables.now (names_style_view style.entry) (map list_of lists.now) now.inherited;
+          variables.now (names_style_view style.now) (map list_of lists.now) now.inherited;
       state =
-          with_first_forms_by (names_style_view style.entry).options.form
+          with_first_forms_by (names_style_view style.now).options.form
           (forms_in now.cite variables.now
-          (names_style_view style.entry).options (map list_of lists.now)) now.state;
+          (names_style_view style.now).options (map list_of lists.now)) now.state;
     }) result ctx.old ctx.new }
 {
     match style.options.form {
         NameForm::Count => {
             let later = !ctx.instance().cite_props.certain.is_first;
-            push_count(ctx, count_of(style.options, later, lists))
+            push_count(ctx, count_of(&style.options, later, lists))
         }
         NameForm::Short | NameForm::Long => push_all(ctx, style, variables, lists),
     }
@@ -141,23 +141,23 @@ fn push_body<T>(
 #[tactic(auto, using(csl_context::proofs::Affixes::bare))]
 fn push_affixed_body<T>(
     ctx: &mut Context<'_, T>,
-    style: NamesStyle<'_>,
-    parts: NamesParts<'_>,
+    style: &NamesStyle<'_>,
+    parts: &NamesParts<'_>,
     lists: &[PersonList<'_>],
 ) -> Result<(), RenderError>
     requires { OnFalse ctx.old.failed (ctx.old.inner ≡ []) }
     ensures { Runs (λ now. record now {
       inner =
-          between_in now.inherited (option_map (λ t. t.now) parts.entry.prefix)
-          (option_map (λ t. t.now) parts.entry.suffix)
-          (names_body (names_style_view style.entry).options.form now.style
+          between_in now.inherited (option_map (λ t. t.now) parts.now.prefix)
+          (option_map (λ t. t.now) parts.now.suffix)
+          (names_body (names_style_view style.now).options.form now.style
           (is_some now.sorting) now.cite
-          parts.entry.variables.now (names_style_view style.entry) (map list_of lists.now)
+          parts.now.variables.now (names_style_view style.now) (map list_of lists.now)
           now.inherited);
       state =
-          with_first_forms_by (names_style_view style.entry).options.form
-          (forms_in now.cite parts.entry.variables.now
-          (names_style_view style.entry).options (map list_of lists.now)) now.state;
+          with_first_forms_by (names_style_view style.now).options.form
+          (forms_in now.cite parts.now.variables.now
+          (names_style_view style.now).options (map list_of lists.now)) now.state;
     }) result ctx.old ctx.new }
 {
     if parts.prefix.is_none() && parts.suffix.is_none() {
@@ -211,10 +211,11 @@ pub fn write_names<T>(
 {
     let missing_name = Name::new(ctx.alloc());
     let missing_et_al = EtAl::default();
-    let style = names_style(parts, ctx.name_options(), &missing_name, &missing_et_al);
+    let inherited = ctx.name_options();
+    let style = names_style(&parts, &inherited, &missing_name, &missing_et_al);
     ctx.push_format(parts.formatting)?;
     let element = ctx.push_elem()?;
-    push_affixed_body(ctx, style, parts, lists)?;
+    push_affixed_body(ctx, &style, &parts, lists)?;
     commit_names(ctx, element, parts.display, lists)?;
     ctx.pop_format();
     Ok(())

@@ -74,7 +74,7 @@ fn push_term<T>(
 impl NamesStyle<'_> {
     /// Writes the label of a list, if it is on that side of the names.
     fn push_label<T>(
-        self,
+        &self,
         ctx: &mut Context<'_, T>,
         after: bool,
         variable: NameVariable,
@@ -82,7 +82,7 @@ impl NamesStyle<'_> {
     ) -> Result<(), RenderError>
         ensures { Runs (λ now. record now {
           inner = with_label now.style
-              (label_on (is_some now.sorting) after (names_style_view self.entry).label) variable
+              (label_on (is_some now.sorting) after (names_style_view self.now).label) variable
               count
               now.inherited now.inner;
         }) result ctx.old ctx.new }
@@ -99,7 +99,7 @@ impl NamesStyle<'_> {
 
     /// Writes the names of a list in the formatting of the name child.
     fn push_names<T>(
-        self,
+        &self,
         ctx: &mut Context<'_, T>,
         persons: &[Cow<'_, Person>],
         variable: NameVariable,
@@ -107,7 +107,7 @@ impl NamesStyle<'_> {
     ) -> Result<(), RenderError>
         ensures { Runs (λ now. record now {
           inner = with_list now.style
-              (is_some now.sorting) (names_style_view self.entry) now.inherited
+              (is_some now.sorting) (names_style_view self.now) now.inherited
               (map (cow_view person_view) persons.now) variable forms.now now.inner;
         }) result ctx.old ctx.new }
     {
@@ -128,7 +128,7 @@ impl NamesStyle<'_> {
     /// Writes a list: the delimiter, unless the list is the first; then label, names, label.
     #[tactic(auto, unfolding(crate::specs::NamesContent::with_labelled_list))]
     fn push_one<T>(
-        self,
+        &self,
         ctx: &mut Context<'_, T>,
         first: bool,
         persons: &[Cow<'_, Person>],
@@ -137,7 +137,7 @@ impl NamesStyle<'_> {
     ) -> Result<(), RenderError>
         ensures { Runs (λ now. record now {
           inner = with_labelled_list now.style
-              (is_some now.sorting) (names_style_view self.entry) now.inherited first
+              (is_some now.sorting) (names_style_view self.now) now.inherited first
               (map (cow_view person_view) persons.now) variable forms.now now.inner;
         }) result ctx.old ctx.new }
     {
@@ -151,7 +151,7 @@ impl NamesStyle<'_> {
 
     /// Writes a list, unless it is empty or has no forms.
     fn push_one_if<T>(
-        self,
+        &self,
         ctx: &mut Context<'_, T>,
         first: bool,
         persons: &[Cow<'_, Person>],
@@ -160,7 +160,7 @@ impl NamesStyle<'_> {
     ) -> Result<(), RenderError>
         ensures { Runs (λ now. record now {
           inner = with_list_if_any now.style
-              (is_some now.sorting) (names_style_view self.entry) now.inherited first
+              (is_some now.sorting) (names_style_view self.now) now.inherited first
               (map (cow_view person_view) persons.now) variable
               (option_map (λ f. f.now) forms.entry)
               now.inner;
@@ -180,14 +180,14 @@ impl NamesStyle<'_> {
 
     /// Writes the lists that have persons and forms.
     pub(crate) fn push_lists<T>(
-        self,
+        &self,
         ctx: &mut Context<'_, T>,
         lists: &[PersonList<'_>],
         forms: &[Vec<Option<DisambiguatedNameForm>>],
     ) -> Result<(), RenderError>
         ensures { Runs (λ now. record now {
           inner = with_lists now.style
-              (is_some now.sorting) (names_style_view self.entry) now.inherited true 0
+              (is_some now.sorting) (names_style_view self.now) now.inherited true 0
               (map (λ f. f.items) forms.now) (map list_of lists.now) now.inner;
         }) result ctx.old ctx.new }
     {

@@ -9,7 +9,7 @@ use Rattle.csl_names.proofs.names.forms.count_of.Goals as goal
 
 pub loop-list-preserved : goal.loop-list-preserved
 loop-list-preserved c =
-    let o = complete_options c.args.options in
+    let o = complete_options c.args.options.now in
     let lists = c.args.lists.now in
     let i = c.loop-list.list-index in
     let x = c.list-item.result in
