@@ -87,7 +87,7 @@ fn show_cites<T: EntryLike>(
 }
 
 /// Prints the word that the style lacks, and the cites of the book, of a page of it, of the film,
-/// and of a book of three authors.
+/// and of a book of three authors. CSL's English has no word for a locator that is a number.
 fn show_styled(
     rt: &(impl Print + AllocGlobal),
     style: &Style,
