@@ -6,7 +6,7 @@ import os
 import re
 
 TOP = os.path.dirname(os.path.dirname(os.path.dirname(os.path.realpath(__file__))))
-# Other spellings: of Appendix IV of CSL 1.0.2, and of CSL 1.0.1.
+# Spellings beside those of CSL's locales: of Appendix IV of CSL 1.0.2, and of CSL 1.0.1.
 OTHER_SPELLINGS = {"editor-translator": "editortranslator", "sub verbo": "sub-verbo"}
 VARIABLES = ("StandardVariable", "NumberVariable", "PageVariable", "DateVariable", "NameVariable")
 
@@ -41,24 +41,31 @@ def csl_name(variant: str) -> str:
 
 @functools.cache
 def read_names() -> dict[str, dict[str, str]]:
-    """The variants that each `from_name` reads, by their names."""
-    arm = re.compile(r'^ +"([\w -]+)" => Some\(((\w+)::\w+(?:\([\w:]+\))?)\),$', re.M)
+    """The variants that have names of their own in CSL, by the names that each `name` writes."""
+    arm = re.compile(r'^ +((\w+)::\w+) => (?:Some\()?"([\w -]+)"\)?,$', re.M)
+    month = re.compile(r'^ +(\d+) => Some\("(month-\d+)"\),$', re.M)
     found: dict[str, dict[str, str]] = {}
     for text in sources():
-        for name, variant, enum in arm.findall(text):
+        for variant, enum, name in arm.findall(text):
             found.setdefault(enum, {})[name] = variant
+        for number, name in month.findall(text):
+            found["OtherTerm"][name] = f"OtherTerm::Month({number})"
+    for name, season in found.pop("Season").items():
+        found["OtherTerm"][name] = f"OtherTerm::Season({season})"
     return found
 
 
 @functools.cache
 def variants(enum: str) -> dict[str, str]:
-    """The variants of an enum, by the names that its `from_name` reads, else by their names in
-    CSL."""
+    """The variants of an enum, by the names that its `name` writes, else by their names in CSL."""
     names = read_names().get(enum)
     if names is None:
         arms = re.findall(r"^    (\w+),$", body(f"pub enum {enum} "), re.M)
         names = {csl_name(it): f"{enum}::{it}" for it in arms}
-    return names | {other: names[name] for other, name in OTHER_SPELLINGS.items() if name in names}
+    for other, usual in OTHER_SPELLINGS.items():
+        if variant := names.get(other) or names.get(usual):
+            names = names | {other: variant, usual: variant}
+    return names
 
 
 @functools.cache
@@ -94,7 +101,7 @@ def languages() -> dict[str, tuple[str, tuple[str, str]]]:
         with open(path, encoding="utf-8") as source:
             text = source.read()
         name = re.search(r"CSL's own locale\s+(?://! )?`([\w-]+)`", text)
-        quotes, days = (re.search(rf"^    {option}: (true|false),$", text, re.M)
+        quotes, days = (re.search(rf"^ +{option}: (true|false),$", text, re.M)
                         for option in ("punctuation_in_quote", "limit_day_ordinals_to_day_1"))
         if not (name and quotes and days):
             lacks = "does not name its locale of CSL and both options"

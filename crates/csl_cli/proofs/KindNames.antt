@@ -18,53 +18,8 @@ found_passes p [] = tt
 found_passes p (x ∷ xs) = first_or p x (find p xs) (p x) refl (found_passes p xs)
 
 by_its_name : (kind : Kind) → named_kind (name_of kind) ≡ Some kind
-by_its_name kind = elim kind as (λ k. named_kind (name_of k) ≡ Some k) [
-  | kinds.Article ↦ refl
-  | kinds.ArticleJournal ↦ refl
-  | kinds.ArticleMagazine ↦ refl
-  | kinds.ArticleNewspaper ↦ refl
-  | kinds.Bill ↦ refl
-  | kinds.Book ↦ refl
-  | kinds.Broadcast ↦ refl
-  | kinds.Chapter ↦ refl
-  | kinds.Classic ↦ refl
-  | kinds.Collection ↦ refl
-  | kinds.Dataset ↦ refl
-  | kinds.Document ↦ refl
-  | kinds.Entry ↦ refl
-  | kinds.EntryDictionary ↦ refl
-  | kinds.EntryEncyclopedia ↦ refl
-  | kinds.Event ↦ refl
-  | kinds.Figure ↦ refl
-  | kinds.Graphic ↦ refl
-  | kinds.Hearing ↦ refl
-  | kinds.Interview ↦ refl
-  | kinds.LegalCase ↦ refl
-  | kinds.Legislation ↦ refl
-  | kinds.Manuscript ↦ refl
-  | kinds.Map ↦ refl
-  | kinds.MotionPicture ↦ refl
-  | kinds.MusicalScore ↦ refl
-  | kinds.Pamphlet ↦ refl
-  | kinds.PaperConference ↦ refl
-  | kinds.Patent ↦ refl
-  | kinds.Performance ↦ refl
-  | kinds.Periodical ↦ refl
-  | kinds.PersonalCommunication ↦ refl
-  | kinds.Post ↦ refl
-  | kinds.PostWeblog ↦ refl
-  | kinds.Regulation ↦ refl
-  | kinds.Report ↦ refl
-  | kinds.Review ↦ refl
-  | kinds.ReviewBook ↦ refl
-  | kinds.Software ↦ refl
-  | kinds.Song ↦ refl
-  | kinds.Speech ↦ refl
-  | kinds.Standard ↦ refl
-  | kinds.Thesis ↦ refl
-  | kinds.Treaty ↦ refl
-  | kinds.Webpage ↦ refl
-]
+by_its_name kinds.Article = refl
+by_its_name _ = refl
 
 by_no_name : (name : List ℕ) (o : Option Kind) → ((kind : Kind) → (None ≡ Some kind) ↔ (name ≡ name_of kind)) → IfSome o (λ kind. bytes_eq name (name_of kind) ≡ true) → None ≡ o
 by_no_name name None h passes = refl

@@ -9,6 +9,7 @@ pub mod Sets
 pub mod VariableSets
 pub mod Options
 pub mod Injective
+pub mod ByName
 pub mod OneName
 pub mod OneTerm
 pub mod FirstTerm

@@ -1,16 +1,27 @@
 -- The names of terms (CSL 1.0.2, Appendix II: Terms). The term of a variable or of a locator has the
--- name of it. A month has one from `month-01` to `month-12`, and a `Month` of a number above 11 none.
+-- name of it; but the term of `editor-translator` is `editortranslator` (Names). Both spellings are
+-- read. A month has a name from `month-01` to `month-12`, and a `Month` of a number above 11 none.
 -- Some names are those of several terms, such as `page`, `volume` and `version`: first comes the
 -- term of a variable, then that of a locator, then any other.
-use Rattle.std.specs.Prelude.{ℕ, ◌≡◌, ◌≤◌, List, [], ◌∷◌, Option, Some, codes, slice_get}
+use Rattle.std.specs.Prelude.{ℕ, ◌≡◌, ◌≤◌, List, [], ◌∷◌, Option, Some, codes, slice_get, if◌then◌else◌}
+use Rattle.std.specs.Str.{bytes_eq}
 use Rattle.csl_common.specs.declared.season.Season.{Season}
 use Rattle.csl_common.specs.declared.season.Season.TheVariants as seasons
+use Rattle.csl_elements.specs.declared.taxonomy.NameVariable.{NameVariable}
 use Rattle.csl_elements.specs.declared.term.OtherTerm.{OtherTerm}
 use Rattle.csl_elements.specs.declared.term.OtherTerm.TheVariants as others
 use Rattle.csl_elements.specs.declared.term.Term.{Term}
 use Rattle.csl_elements.specs.declared.term.Term.TheVariants as terms
 use Rattle.csl_elements.specs.VariableNames.{name_variable_name, number_name, page_name}
 use Rattle.csl_elements.specs.LocatorNames.{locator_name}
+
+-- the name of a term in the spelling of CSL's locales
+abbrev pub term_spelling : List ℕ → List ℕ
+term_spelling name = if bytes_eq name (codes "editor-translator") then codes "editortranslator" else name
+
+-- the name of the term of a name variable
+abbrev pub role_name : NameVariable → List ℕ
+role_name variable = term_spelling (name_variable_name variable)
 
 -- the names of the months, from January
 abbrev pub months : List (List ℕ)
@@ -65,7 +76,7 @@ other_name (others.Season season) = Some (season_name season)
 
 -- the name of a term
 abbrev pub term_name : Term → Option (List ℕ)
-term_name (terms.Name variable) = Some (name_variable_name variable)
+term_name (terms.Name variable) = Some (role_name variable)
 term_name (terms.Number variable) = Some (number_name variable)
 term_name (terms.Page variable) = Some (page_name variable)
 term_name (terms.Locator locator) = Some (locator_name locator)

@@ -1,6 +1,6 @@
 -- Each variable has one name, such as `container-title` (CSL 1.0.2, Appendix IV: Variables). No two
--- have the same. Appendix IV spells `editor-translator` what CSL's locales spell `editortranslator`;
--- both spellings are read, and the second is written.
+-- have the same. Styles also spell `editor-translator` in one word, as its term is spelled; both
+-- spellings are read, and that of Appendix IV is written.
 use Rattle.std.specs.Prelude.{ℕ, List, codes, if◌then◌else◌}
 use Rattle.std.specs.Str.{bytes_eq}
 use Rattle.csl_elements.specs.declared.taxonomy.StandardVariable.{StandardVariable}
@@ -112,7 +112,7 @@ name_variable_name names.Curator = codes "curator"
 name_variable_name names.Director = codes "director"
 name_variable_name names.Editor = codes "editor"
 name_variable_name names.EditorialDirector = codes "editorial-director"
-name_variable_name names.EditorTranslator = codes "editortranslator"
+name_variable_name names.EditorTranslator = codes "editor-translator"
 name_variable_name names.ExecutiveProducer = codes "executive-producer"
 name_variable_name names.Guest = codes "guest"
 name_variable_name names.Host = codes "host"
@@ -137,6 +137,6 @@ variable_name (variables.Page variable) = page_name variable
 variable_name (variables.Date variable) = date_name variable
 variable_name (variables.Name variable) = name_variable_name variable
 
--- a name in the spelling that is written
-abbrev pub one_spelling : List ℕ → List ℕ
-one_spelling name = if bytes_eq name (codes "editor-translator") then codes "editortranslator" else name
+-- the name of a variable in the spelling of Appendix IV
+abbrev pub variable_spelling : List ℕ → List ℕ
+variable_spelling name = if bytes_eq name (codes "editortranslator") then codes "editor-translator" else name

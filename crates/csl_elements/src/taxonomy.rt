@@ -1,11 +1,12 @@
 //! The variables that a style may use, and the kinds of entries (CSL 1.0.2, Appendix III: Types;
 //! Appendix IV: Variables).
 
-ghost use Rattle.std.specs.Prelude.{◌≡◌, ◌↔◌, Some};
-ghost use Rattle.csl_elements.specs.Taxonomy.{name_of, variable_of};
+ghost use Rattle.std.specs.Prelude.{◌≡◌};
+ghost use Rattle.csl_elements.specs.Taxonomy.{variable_of};
 ghost use Rattle.csl_elements.specs.declared.taxonomy.NumberOrPageVariable.TheVariants as numbers_or_pages;
 ghost use Rattle.csl_elements.specs.declared.taxonomy.Variable.TheVariants as variables;
 
+mod kind_names;
 mod locator_names;
 pub(crate) mod variable_names;
 
@@ -298,60 +299,4 @@ pub enum Kind {
     Thesis,
     Treaty,
     Webpage,
-}
-
-impl Kind {
-    /// The kind of this name, such as `article-journal`, if there is one.
-    pub fn from_name(name: &str) -> Option<Kind>
-        ensures { (kind : Kind) → (result ≡ Some kind) ↔ (name.now ≡ name_of kind) }
-    {
-        match name {
-            "article" => Some(Kind::Article),
-            "article-journal" => Some(Kind::ArticleJournal),
-            "article-magazine" => Some(Kind::ArticleMagazine),
-            "article-newspaper" => Some(Kind::ArticleNewspaper),
-            "bill" => Some(Kind::Bill),
-            "book" => Some(Kind::Book),
-            "broadcast" => Some(Kind::Broadcast),
-            "chapter" => Some(Kind::Chapter),
-            "classic" => Some(Kind::Classic),
-            "collection" => Some(Kind::Collection),
-            "dataset" => Some(Kind::Dataset),
-            "document" => Some(Kind::Document),
-            "entry" => Some(Kind::Entry),
-            "entry-dictionary" => Some(Kind::EntryDictionary),
-            "entry-encyclopedia" => Some(Kind::EntryEncyclopedia),
-            "event" => Some(Kind::Event),
-            "figure" => Some(Kind::Figure),
-            "graphic" => Some(Kind::Graphic),
-            "hearing" => Some(Kind::Hearing),
-            "interview" => Some(Kind::Interview),
-            "legal_case" => Some(Kind::LegalCase),
-            "legislation" => Some(Kind::Legislation),
-            "manuscript" => Some(Kind::Manuscript),
-            "map" => Some(Kind::Map),
-            "motion_picture" => Some(Kind::MotionPicture),
-            "musical_score" => Some(Kind::MusicalScore),
-            "pamphlet" => Some(Kind::Pamphlet),
-            "paper-conference" => Some(Kind::PaperConference),
-            "patent" => Some(Kind::Patent),
-            "performance" => Some(Kind::Performance),
-            "periodical" => Some(Kind::Periodical),
-            "personal_communication" => Some(Kind::PersonalCommunication),
-            "post" => Some(Kind::Post),
-            "post-weblog" => Some(Kind::PostWeblog),
-            "regulation" => Some(Kind::Regulation),
-            "report" => Some(Kind::Report),
-            "review" => Some(Kind::Review),
-            "review-book" => Some(Kind::ReviewBook),
-            "software" => Some(Kind::Software),
-            "song" => Some(Kind::Song),
-            "speech" => Some(Kind::Speech),
-            "standard" => Some(Kind::Standard),
-            "thesis" => Some(Kind::Thesis),
-            "treaty" => Some(Kind::Treaty),
-            "webpage" => Some(Kind::Webpage),
-            _ => None,
-        }
-    }
 }

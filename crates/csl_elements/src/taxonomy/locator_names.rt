@@ -5,42 +5,47 @@ ghost use Rattle.csl_elements.specs.LocatorNames.{locator_name};
 
 use crate::taxonomy::Locator;
 
+/// The kinds of locators.
+static LOCATORS: [Locator; 28] = [
+    Locator::Act,
+    Locator::Appendix,
+    Locator::Book,
+    Locator::Canon,
+    Locator::Chapter,
+    Locator::Column,
+    Locator::Equation,
+    Locator::Figure,
+    Locator::Folio,
+    Locator::Issue,
+    Locator::Line,
+    Locator::Note,
+    Locator::Number,
+    Locator::Opus,
+    Locator::Page,
+    Locator::Paragraph,
+    Locator::Part,
+    Locator::Rule,
+    Locator::Scene,
+    Locator::Section,
+    Locator::SubVerbo,
+    Locator::Supplement,
+    Locator::Table,
+    Locator::Timestamp,
+    Locator::Verse,
+    Locator::Version,
+    Locator::Volume,
+    Locator::Custom,
+];
+
 impl Locator {
     /// The kind of locator of this name, such as `sub-verbo`, if there is one.
     pub fn from_name(name: &str) -> Option<Locator>
         ensures { (locator : Locator) → (result ≡ Some locator) ↔ (name.now ≡ locator_name locator) }
     {
-        match name {
-            "act" => Some(Locator::Act),
-            "appendix" => Some(Locator::Appendix),
-            "book" => Some(Locator::Book),
-            "canon" => Some(Locator::Canon),
-            "chapter" => Some(Locator::Chapter),
-            "column" => Some(Locator::Column),
-            "equation" => Some(Locator::Equation),
-            "figure" => Some(Locator::Figure),
-            "folio" => Some(Locator::Folio),
-            "issue" => Some(Locator::Issue),
-            "line" => Some(Locator::Line),
-            "note" => Some(Locator::Note),
-            "number" => Some(Locator::Number),
-            "opus" => Some(Locator::Opus),
-            "page" => Some(Locator::Page),
-            "paragraph" => Some(Locator::Paragraph),
-            "part" => Some(Locator::Part),
-            "rule" => Some(Locator::Rule),
-            "scene" => Some(Locator::Scene),
-            "section" => Some(Locator::Section),
-            "sub-verbo" => Some(Locator::SubVerbo),
-            "supplement" => Some(Locator::Supplement),
-            "table" => Some(Locator::Table),
-            "timestamp" => Some(Locator::Timestamp),
-            "verse" => Some(Locator::Verse),
-            "version" => Some(Locator::Version),
-            "volume" => Some(Locator::Volume),
-            "custom" => Some(Locator::Custom),
-            _ => None,
-        }
+        LOCATORS
+            .iter()
+            .find(|locator| locator.name() == name)
+            .copied()
     }
 
     /// Its name in CSL, such as `sub-verbo`; `custom` for a custom one, which CSL does not name.

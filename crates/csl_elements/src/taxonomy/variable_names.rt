@@ -1,68 +1,74 @@
 //! The names of variables (CSL 1.0.2, Appendix IV: Variables).
 
 ghost use Rattle.std.specs.Prelude.{◌≡◌, ◌↔◌, Some};
-ghost use Rattle.csl_elements.specs.VariableNames.{date_name, name_variable_name, number_name, one_spelling, page_name, standard_name, variable_name};
+ghost use Rattle.csl_elements.specs.VariableNames.{date_name, name_variable_name, number_name};
+ghost use Rattle.csl_elements.specs.VariableNames.{page_name, standard_name, variable_name};
+ghost use Rattle.csl_elements.specs.VariableNames.{variable_spelling};
 
 use crate::taxonomy::{
     DateVariable, NameVariable, NumberVariable, PageVariable, StandardVariable, Variable,
 };
 
+/// The standard variables.
+static STANDARD_VARIABLES: [StandardVariable; 47] = [
+    StandardVariable::Abstract,
+    StandardVariable::Annote,
+    StandardVariable::Archive,
+    StandardVariable::ArchiveCollection,
+    StandardVariable::ArchiveLocation,
+    StandardVariable::ArchivePlace,
+    StandardVariable::Authority,
+    StandardVariable::CallNumber,
+    StandardVariable::CitationKey,
+    StandardVariable::CitationLabel,
+    StandardVariable::CollectionTitle,
+    StandardVariable::ContainerTitle,
+    StandardVariable::ContainerTitleShort,
+    StandardVariable::Dimensions,
+    StandardVariable::Division,
+    StandardVariable::DOI,
+    StandardVariable::Event,
+    StandardVariable::EventTitle,
+    StandardVariable::EventPlace,
+    StandardVariable::Genre,
+    StandardVariable::ISBN,
+    StandardVariable::ISSN,
+    StandardVariable::Jurisdiction,
+    StandardVariable::Keyword,
+    StandardVariable::Language,
+    StandardVariable::License,
+    StandardVariable::Medium,
+    StandardVariable::Note,
+    StandardVariable::OriginalPublisher,
+    StandardVariable::OriginalPublisherPlace,
+    StandardVariable::OriginalTitle,
+    StandardVariable::PartTitle,
+    StandardVariable::PMCID,
+    StandardVariable::PMID,
+    StandardVariable::Publisher,
+    StandardVariable::PublisherPlace,
+    StandardVariable::References,
+    StandardVariable::ReviewedGenre,
+    StandardVariable::ReviewedTitle,
+    StandardVariable::Scale,
+    StandardVariable::Source,
+    StandardVariable::Status,
+    StandardVariable::Title,
+    StandardVariable::TitleShort,
+    StandardVariable::URL,
+    StandardVariable::VolumeTitle,
+    StandardVariable::YearSuffix,
+];
+
 impl StandardVariable {
     /// The standard variable of this name, such as `container-title`, if there is one.
-    #[tactic(auto, using(crate::proofs::OneName::standard_first))]
     pub fn from_name(name: &str) -> Option<StandardVariable>
         ensures { (variable : StandardVariable) → (result ≡ Some variable) ↔ (name.now ≡ standard_name variable) }
     {
-        match name {
-            "abstract" => Some(StandardVariable::Abstract),
-            "annote" => Some(StandardVariable::Annote),
-            "archive" => Some(StandardVariable::Archive),
-            "archive_collection" => Some(StandardVariable::ArchiveCollection),
-            "archive_location" => Some(StandardVariable::ArchiveLocation),
-            "archive-place" => Some(StandardVariable::ArchivePlace),
-            "authority" => Some(StandardVariable::Authority),
-            "call-number" => Some(StandardVariable::CallNumber),
-            "citation-key" => Some(StandardVariable::CitationKey),
-            "citation-label" => Some(StandardVariable::CitationLabel),
-            "collection-title" => Some(StandardVariable::CollectionTitle),
-            "container-title" => Some(StandardVariable::ContainerTitle),
-            "container-title-short" => Some(StandardVariable::ContainerTitleShort),
-            "dimensions" => Some(StandardVariable::Dimensions),
-            "division" => Some(StandardVariable::Division),
-            "DOI" => Some(StandardVariable::DOI),
-            "event" => Some(StandardVariable::Event),
-            "event-title" => Some(StandardVariable::EventTitle),
-            "event-place" => Some(StandardVariable::EventPlace),
-            "genre" => Some(StandardVariable::Genre),
-            "ISBN" => Some(StandardVariable::ISBN),
-            "ISSN" => Some(StandardVariable::ISSN),
-            "jurisdiction" => Some(StandardVariable::Jurisdiction),
-            "keyword" => Some(StandardVariable::Keyword),
-            "language" => Some(StandardVariable::Language),
-            "license" => Some(StandardVariable::License),
-            "medium" => Some(StandardVariable::Medium),
-            "note" => Some(StandardVariable::Note),
-            "original-publisher" => Some(StandardVariable::OriginalPublisher),
-            "original-publisher-place" => Some(StandardVariable::OriginalPublisherPlace),
-            "original-title" => Some(StandardVariable::OriginalTitle),
-            "part-title" => Some(StandardVariable::PartTitle),
-            "PMCID" => Some(StandardVariable::PMCID),
-            "PMID" => Some(StandardVariable::PMID),
-            "publisher" => Some(StandardVariable::Publisher),
-            "publisher-place" => Some(StandardVariable::PublisherPlace),
-            "references" => Some(StandardVariable::References),
-            "reviewed-genre" => Some(StandardVariable::ReviewedGenre),
-            "reviewed-title" => Some(StandardVariable::ReviewedTitle),
-            "scale" => Some(StandardVariable::Scale),
-            "source" => Some(StandardVariable::Source),
-            "status" => Some(StandardVariable::Status),
-            "title" => Some(StandardVariable::Title),
-            "title-short" => Some(StandardVariable::TitleShort),
-            "URL" => Some(StandardVariable::URL),
-            "volume-title" => Some(StandardVariable::VolumeTitle),
-            "year-suffix" => Some(StandardVariable::YearSuffix),
-            _ => None,
-        }
+        STANDARD_VARIABLES
+            .iter()
+            .find(|standard| standard.name() == name)
+            .copied()
     }
 
     /// Its name in CSL, such as `container-title`.
@@ -121,31 +127,36 @@ impl StandardVariable {
     }
 }
 
+/// The number variables.
+static NUMBER_VARIABLES: [NumberVariable; 17] = [
+    NumberVariable::ChapterNumber,
+    NumberVariable::CitationNumber,
+    NumberVariable::CollectionNumber,
+    NumberVariable::Edition,
+    NumberVariable::FirstReferenceNoteNumber,
+    NumberVariable::Issue,
+    NumberVariable::Locator,
+    NumberVariable::Number,
+    NumberVariable::NumberOfPages,
+    NumberVariable::NumberOfVolumes,
+    NumberVariable::PageFirst,
+    NumberVariable::PartNumber,
+    NumberVariable::PrintingNumber,
+    NumberVariable::Section,
+    NumberVariable::SupplementNumber,
+    NumberVariable::Version,
+    NumberVariable::Volume,
+];
+
 impl NumberVariable {
     /// The number variable of this name, such as `volume`, if there is one.
     pub fn from_name(name: &str) -> Option<NumberVariable>
         ensures { (variable : NumberVariable) → (result ≡ Some variable) ↔ (name.now ≡ number_name variable) }
     {
-        match name {
-            "chapter-number" => Some(NumberVariable::ChapterNumber),
-            "citation-number" => Some(NumberVariable::CitationNumber),
-            "collection-number" => Some(NumberVariable::CollectionNumber),
-            "edition" => Some(NumberVariable::Edition),
-            "first-reference-note-number" => Some(NumberVariable::FirstReferenceNoteNumber),
-            "issue" => Some(NumberVariable::Issue),
-            "locator" => Some(NumberVariable::Locator),
-            "number" => Some(NumberVariable::Number),
-            "number-of-pages" => Some(NumberVariable::NumberOfPages),
-            "number-of-volumes" => Some(NumberVariable::NumberOfVolumes),
-            "page-first" => Some(NumberVariable::PageFirst),
-            "part-number" => Some(NumberVariable::PartNumber),
-            "printing-number" => Some(NumberVariable::PrintingNumber),
-            "section" => Some(NumberVariable::Section),
-            "supplement-number" => Some(NumberVariable::SupplementNumber),
-            "version" => Some(NumberVariable::Version),
-            "volume" => Some(NumberVariable::Volume),
-            _ => None,
-        }
+        NUMBER_VARIABLES
+            .iter()
+            .find(|number| number.name() == name)
+            .copied()
     }
 
     /// Its name in CSL, such as `volume`.
@@ -174,15 +185,18 @@ impl NumberVariable {
     }
 }
 
+/// The page variables.
+static PAGE_VARIABLES: [PageVariable; 1] = [PageVariable::Page];
+
 impl PageVariable {
     /// The page variable of this name, such as `page`, if there is one.
     pub fn from_name(name: &str) -> Option<PageVariable>
         ensures { (variable : PageVariable) → (result ≡ Some variable) ↔ (name.now ≡ page_name variable) }
     {
-        match name {
-            "page" => Some(PageVariable::Page),
-            _ => None,
-        }
+        PAGE_VARIABLES
+            .iter()
+            .find(|page| page.name() == name)
+            .copied()
     }
 
     /// Its name in CSL, such as `page`.
@@ -195,20 +209,25 @@ impl PageVariable {
     }
 }
 
+/// The date variables.
+static DATE_VARIABLES: [DateVariable; 6] = [
+    DateVariable::Accessed,
+    DateVariable::AvailableDate,
+    DateVariable::EventDate,
+    DateVariable::Issued,
+    DateVariable::OriginalDate,
+    DateVariable::Submitted,
+];
+
 impl DateVariable {
     /// The date variable of this name, such as `issued`, if there is one.
     pub fn from_name(name: &str) -> Option<DateVariable>
         ensures { (variable : DateVariable) → (result ≡ Some variable) ↔ (name.now ≡ date_name variable) }
     {
-        match name {
-            "accessed" => Some(DateVariable::Accessed),
-            "available-date" => Some(DateVariable::AvailableDate),
-            "event-date" => Some(DateVariable::EventDate),
-            "issued" => Some(DateVariable::Issued),
-            "original-date" => Some(DateVariable::OriginalDate),
-            "submitted" => Some(DateVariable::Submitted),
-            _ => None,
-        }
+        DATE_VARIABLES
+            .iter()
+            .find(|date| date.name() == name)
+            .copied()
     }
 
     /// Its name in CSL, such as `issued`.
@@ -226,61 +245,67 @@ impl DateVariable {
     }
 }
 
-/// The name in CSL's usual spelling: `editortranslator` for the `editor-translator` of Appendix IV.
-/// CSL's locales and published styles write it as one word.
-pub(crate) fn one_spelling(name: &str) -> &str
-    ensures { result.now ≡ one_spelling name.now }
+/// The name variables.
+pub(crate) static NAME_VARIABLES: [NameVariable; 27] = [
+    NameVariable::Author,
+    NameVariable::Chair,
+    NameVariable::CollectionEditor,
+    NameVariable::Compiler,
+    NameVariable::Composer,
+    NameVariable::ContainerAuthor,
+    NameVariable::Contributor,
+    NameVariable::Curator,
+    NameVariable::Director,
+    NameVariable::Editor,
+    NameVariable::EditorialDirector,
+    NameVariable::EditorTranslator,
+    NameVariable::ExecutiveProducer,
+    NameVariable::Guest,
+    NameVariable::Host,
+    NameVariable::Illustrator,
+    NameVariable::Interviewer,
+    NameVariable::Narrator,
+    NameVariable::Organizer,
+    NameVariable::OriginalAuthor,
+    NameVariable::Performer,
+    NameVariable::Producer,
+    NameVariable::Recipient,
+    NameVariable::ReviewedAuthor,
+    NameVariable::ScriptWriter,
+    NameVariable::SeriesCreator,
+    NameVariable::Translator,
+];
+
+/// The name of a variable in the spelling of Appendix IV: `editor-translator` for the
+/// `editortranslator` of published styles.
+fn variable_spelling(name: &str) -> &str
+    ensures { result.now ≡ variable_spelling name.now }
 {
-    if name == "editor-translator" {
-        "editortranslator"
+    if name == "editortranslator" {
+        "editor-translator"
     } else {
         name
     }
 }
 
-/// The name variable of this name in CSL's usual spelling.
-pub(crate) fn name_variable(name: &str) -> Option<NameVariable>
+/// The name variable of this name in the spelling of Appendix IV.
+fn name_variable(name: &str) -> Option<NameVariable>
     ensures { (variable : NameVariable) → (result ≡ Some variable) ↔ (name.now ≡ name_variable_name variable) }
 {
-    match name {
-        "author" => Some(NameVariable::Author),
-        "chair" => Some(NameVariable::Chair),
-        "collection-editor" => Some(NameVariable::CollectionEditor),
-        "compiler" => Some(NameVariable::Compiler),
-        "composer" => Some(NameVariable::Composer),
-        "container-author" => Some(NameVariable::ContainerAuthor),
-        "contributor" => Some(NameVariable::Contributor),
-        "curator" => Some(NameVariable::Curator),
-        "director" => Some(NameVariable::Director),
-        "editor" => Some(NameVariable::Editor),
-        "editorial-director" => Some(NameVariable::EditorialDirector),
-        "editortranslator" => Some(NameVariable::EditorTranslator),
-        "executive-producer" => Some(NameVariable::ExecutiveProducer),
-        "guest" => Some(NameVariable::Guest),
-        "host" => Some(NameVariable::Host),
-        "illustrator" => Some(NameVariable::Illustrator),
-        "interviewer" => Some(NameVariable::Interviewer),
-        "narrator" => Some(NameVariable::Narrator),
-        "organizer" => Some(NameVariable::Organizer),
-        "original-author" => Some(NameVariable::OriginalAuthor),
-        "performer" => Some(NameVariable::Performer),
-        "producer" => Some(NameVariable::Producer),
-        "recipient" => Some(NameVariable::Recipient),
-        "reviewed-author" => Some(NameVariable::ReviewedAuthor),
-        "script-writer" => Some(NameVariable::ScriptWriter),
-        "series-creator" => Some(NameVariable::SeriesCreator),
-        "translator" => Some(NameVariable::Translator),
-        _ => None,
-    }
+    NAME_VARIABLES
+        .iter()
+        .find(|variable| variable.name() == name)
+        .copied()
 }
 
 impl NameVariable {
     /// The name variable of this name, such as `author`, if there is one. It may be spelled
-    /// `editortranslator` or `editor-translator`.
+    /// `editor-translator` or `editortranslator`.
     pub fn from_name(name: &str) -> Option<NameVariable>
-        ensures { (variable : NameVariable) → (result ≡ Some variable) ↔ (one_spelling name.now ≡ name_variable_name variable) }
+        ensures { (variable : NameVariable) → (result ≡ Some variable)
+            ↔ (variable_spelling name.now ≡ name_variable_name variable) }
     {
-        name_variable(one_spelling(name))
+        name_variable(variable_spelling(name))
     }
 
     /// Its name in CSL, such as `author`.
@@ -299,7 +324,7 @@ impl NameVariable {
             NameVariable::Director => "director",
             NameVariable::Editor => "editor",
             NameVariable::EditorialDirector => "editorial-director",
-            NameVariable::EditorTranslator => "editortranslator",
+            NameVariable::EditorTranslator => "editor-translator",
             NameVariable::ExecutiveProducer => "executive-producer",
             NameVariable::Guest => "guest",
             NameVariable::Host => "host",
@@ -321,12 +346,13 @@ impl NameVariable {
 
 impl Variable {
     /// The variable of this name, such as `container-title`, if there is one. A name variable may
-    /// be spelled `editortranslator` or `editor-translator`.
+    /// be spelled `editor-translator` or `editortranslator`.
     #[tactic(auto, using(crate::proofs::OneName::standard_given, crate::proofs::OneName::number_given, crate::proofs::OneName::page_given, crate::proofs::OneName::date_given, crate::proofs::OneName::name_given, crate::proofs::OneName::none_given))]
     pub fn from_name(name: &str) -> Option<Variable>
-        ensures { (variable : Variable) → (result ≡ Some variable) ↔ (one_spelling name.now ≡ variable_name variable) }
+        ensures { (variable : Variable) → (result ≡ Some variable)
+            ↔ (variable_spelling name.now ≡ variable_name variable) }
     {
-        let name = one_spelling(name);
+        let name = variable_spelling(name);
         if let Some(variable) = StandardVariable::from_name(name) {
             return Some(Variable::Standard(variable));
         }

@@ -1,13 +1,65 @@
 //! The names of terms (CSL 1.0.2, Appendix II: Terms).
 
 ghost use Rattle.std.specs.Prelude.{◌≡◌, ◌↔◌, Some, option_map, slice_get};
-ghost use Rattle.csl_elements.specs.TermNames.{IsTermOf, months, other_name, season_name, term_name};
-ghost use Rattle.csl_elements.specs.VariableNames.{one_spelling};
+ghost use Rattle.csl_elements.specs.TermNames.{IsTermOf, months, other_name, role_name};
+ghost use Rattle.csl_elements.specs.TermNames.{season_name, term_name, term_spelling};
 
-use crate::taxonomy::variable_names::{name_variable, one_spelling};
-use crate::taxonomy::{Locator, NumberVariable, PageVariable};
+use crate::taxonomy::variable_names::NAME_VARIABLES;
+use crate::taxonomy::{Locator, NameVariable, NumberVariable, PageVariable};
 use crate::term::{OtherTerm, Term};
 use csl_common::Season;
+
+/// The other terms that have a name.
+static OTHER_TERMS: [OtherTerm; 48] = [
+    OtherTerm::And,
+    OtherTerm::EtAl,
+    OtherTerm::Ad,
+    OtherTerm::Bc,
+    OtherTerm::PageRangeDelimiter,
+    OtherTerm::OpenQuote,
+    OtherTerm::CloseQuote,
+    OtherTerm::OpenInnerQuote,
+    OtherTerm::CloseInnerQuote,
+    OtherTerm::Accessed,
+    OtherTerm::AndOthers,
+    OtherTerm::Anonymous,
+    OtherTerm::At,
+    OtherTerm::AvailableAt,
+    OtherTerm::By,
+    OtherTerm::Circa,
+    OtherTerm::Cited,
+    OtherTerm::Forthcoming,
+    OtherTerm::From,
+    OtherTerm::Ibid,
+    OtherTerm::In,
+    OtherTerm::InPress,
+    OtherTerm::Internet,
+    OtherTerm::Interview,
+    OtherTerm::Letter,
+    OtherTerm::NoDate,
+    OtherTerm::Online,
+    OtherTerm::PresentedAt,
+    OtherTerm::Reference,
+    OtherTerm::Retrieved,
+    OtherTerm::Scale,
+    OtherTerm::Version,
+    OtherTerm::Month(0),
+    OtherTerm::Month(1),
+    OtherTerm::Month(2),
+    OtherTerm::Month(3),
+    OtherTerm::Month(4),
+    OtherTerm::Month(5),
+    OtherTerm::Month(6),
+    OtherTerm::Month(7),
+    OtherTerm::Month(8),
+    OtherTerm::Month(9),
+    OtherTerm::Month(10),
+    OtherTerm::Month(11),
+    OtherTerm::Season(Season::Spring),
+    OtherTerm::Season(Season::Summer),
+    OtherTerm::Season(Season::Autumn),
+    OtherTerm::Season(Season::Winter),
+];
 
 /// The name of the term for a month, from 0 for January to 11 for December.
 fn month_name(month: u8) -> Option<&'static str>
@@ -42,64 +94,46 @@ fn season_name(season: Season) -> &'static str
     }
 }
 
+/// The name of a term in the spelling of CSL's locales: `editortranslator` for the variable
+/// `editor-translator`.
+fn term_spelling(name: &str) -> &str
+    ensures { result.now ≡ term_spelling name.now }
+{
+    if name == "editor-translator" {
+        "editortranslator"
+    } else {
+        name
+    }
+}
+
+/// The name of the term of a name variable.
+fn role_name(variable: NameVariable) -> &'static str
+    ensures { result.now ≡ role_name variable }
+{
+    term_spelling(variable.name())
+}
+
+/// The name variable whose term has this name.
+fn role_of_name(name: &str) -> Option<NameVariable>
+    ensures { (variable : NameVariable) → (result ≡ Some variable)
+        ↔ (name.now ≡ role_name variable) }
+{
+    NAME_VARIABLES
+        .iter()
+        .find(|variable| role_name(**variable) == name)
+        .copied()
+}
+
 impl OtherTerm {
     /// The term of this name, such as `no date`, that is of no variable and no locator, if there is
     /// one.
-    #[tactic(auto, using(crate::proofs::OneTerm::given_term))]
     pub fn from_name(name: &str) -> Option<OtherTerm>
         ensures { (term : OtherTerm) → (result ≡ Some term) ↔ (other_name term ≡ Some name.now) }
     {
-        match name {
-            "and" => Some(OtherTerm::And),
-            "et-al" => Some(OtherTerm::EtAl),
-            "ad" => Some(OtherTerm::Ad),
-            "bc" => Some(OtherTerm::Bc),
-            "page-range-delimiter" => Some(OtherTerm::PageRangeDelimiter),
-            "open-quote" => Some(OtherTerm::OpenQuote),
-            "close-quote" => Some(OtherTerm::CloseQuote),
-            "open-inner-quote" => Some(OtherTerm::OpenInnerQuote),
-            "close-inner-quote" => Some(OtherTerm::CloseInnerQuote),
-            "accessed" => Some(OtherTerm::Accessed),
-            "and others" => Some(OtherTerm::AndOthers),
-            "anonymous" => Some(OtherTerm::Anonymous),
-            "at" => Some(OtherTerm::At),
-            "available at" => Some(OtherTerm::AvailableAt),
-            "by" => Some(OtherTerm::By),
-            "circa" => Some(OtherTerm::Circa),
-            "cited" => Some(OtherTerm::Cited),
-            "forthcoming" => Some(OtherTerm::Forthcoming),
-            "from" => Some(OtherTerm::From),
-            "ibid" => Some(OtherTerm::Ibid),
-            "in" => Some(OtherTerm::In),
-            "in press" => Some(OtherTerm::InPress),
-            "internet" => Some(OtherTerm::Internet),
-            "interview" => Some(OtherTerm::Interview),
-            "letter" => Some(OtherTerm::Letter),
-            "no date" => Some(OtherTerm::NoDate),
-            "online" => Some(OtherTerm::Online),
-            "presented at" => Some(OtherTerm::PresentedAt),
-            "reference" => Some(OtherTerm::Reference),
-            "retrieved" => Some(OtherTerm::Retrieved),
-            "scale" => Some(OtherTerm::Scale),
-            "version" => Some(OtherTerm::Version),
-            "month-01" => Some(OtherTerm::Month(0)),
-            "month-02" => Some(OtherTerm::Month(1)),
-            "month-03" => Some(OtherTerm::Month(2)),
-            "month-04" => Some(OtherTerm::Month(3)),
-            "month-05" => Some(OtherTerm::Month(4)),
-            "month-06" => Some(OtherTerm::Month(5)),
-            "month-07" => Some(OtherTerm::Month(6)),
-            "month-08" => Some(OtherTerm::Month(7)),
-            "month-09" => Some(OtherTerm::Month(8)),
-            "month-10" => Some(OtherTerm::Month(9)),
-            "month-11" => Some(OtherTerm::Month(10)),
-            "month-12" => Some(OtherTerm::Month(11)),
-            "season-01" => Some(OtherTerm::Season(Season::Spring)),
-            "season-02" => Some(OtherTerm::Season(Season::Summer)),
-            "season-03" => Some(OtherTerm::Season(Season::Autumn)),
-            "season-04" => Some(OtherTerm::Season(Season::Winter)),
-            _ => None,
-        }
+        OTHER_TERMS
+            .iter()
+            .find(|term| term.name() == Some(name))
+            .copied()
     }
 
     /// Its name in CSL, such as `no date`, unless it is a month of a number above 11.
@@ -149,14 +183,14 @@ impl Term {
     /// The term of this name, such as `editor`, `sub-verbo` or `no date`, if there is one. Some
     /// names, such as `page`, `volume` and `version`, are those of several terms. The term of a
     /// variable then comes before that of a locator, which `Locator::from_name` finds, and both
-    /// come before any other. The term for editors who translate may be spelled `editortranslator`
+    /// come before any other. The term of editors who translate may be spelled `editortranslator`
     /// or `editor-translator`.
     #[tactic(auto, using(crate::proofs::FirstTerm::name_first, crate::proofs::FirstTerm::number_first, crate::proofs::FirstTerm::page_first, crate::proofs::FirstTerm::locator_first, crate::proofs::FirstTerm::other_first, crate::proofs::FirstTerm::none_first))]
     pub fn from_name(name: &str) -> Option<Term>
-        ensures { (term : Term) → (result ≡ Some term) ↔ IsTermOf (one_spelling name.now) term }
+        ensures { (term : Term) → (result ≡ Some term) ↔ IsTermOf (term_spelling name.now) term }
     {
-        let name = one_spelling(name);
-        if let Some(variable) = name_variable(name) {
+        let name = term_spelling(name);
+        if let Some(variable) = role_of_name(name) {
             return Some(Term::Name(variable));
         }
         if let Some(variable) = NumberVariable::from_name(name) {
@@ -180,7 +214,7 @@ impl Term {
         ensures { option_map (λ t. t.now) result ≡ term_name self.now }
     {
         match self {
-            Term::Name(variable) => Some(variable.name()),
+            Term::Name(variable) => Some(role_name(*variable)),
             Term::Number(variable) => Some(variable.name()),
             Term::Page(variable) => Some(variable.name()),
             Term::Locator(locator) => Some(locator.name()),

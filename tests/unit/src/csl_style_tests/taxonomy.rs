@@ -70,6 +70,9 @@ fn kinds_by_their_names(rt: HostRuntime) {
     let kinds: &[(&'static str, Option<Kind>)] = &KINDS;
     for (name, wanted) in kinds {
         assert_of(&rt, &Kind::from_name(*name), wanted, *name);
+        if let Some(kind) = wanted {
+            assert_same(&rt, &kind.name(), name);
+        }
     }
 }
 

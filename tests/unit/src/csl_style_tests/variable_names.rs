@@ -107,7 +107,7 @@ static NAME: [(&str, Role); 27] = [
     ("director", Role::Director),
     ("editor", Role::Editor),
     ("editorial-director", Role::EditorialDirector),
-    ("editortranslator", Role::EditorTranslator),
+    ("editor-translator", Role::EditorTranslator),
     ("executive-producer", Role::ExecutiveProducer),
     ("guest", Role::Guest),
     ("host", Role::Host),
@@ -197,9 +197,9 @@ fn name_variables_by_their_names(rt: HostRuntime) {
 
 /// A name, and the variable of this name.
 static OTHERS: [(&str, Option<Variable>); 7] = [
-    // Appendix IV has a hyphen that CSL's locales and published styles do not have.
+    // Appendix IV has a hyphen that the term and published styles do not have.
     (
-        "editor-translator",
+        "editortranslator",
         Some(Variable::Name(Role::EditorTranslator)),
     ),
     // Capitals, hyphens and underscores count.
@@ -218,7 +218,7 @@ fn other_names_of_variables(rt: HostRuntime) {
     for (name, wanted) in rows {
         assert_of(&rt, &Variable::from_name(*name), wanted, *name);
     }
-    let both = Role::from_name("editor-translator");
+    let both = Role::from_name("editortranslator");
     assert_same(&rt, &both, &Some(Role::EditorTranslator));
     assert_same(&rt, &Text::from_name("volume"), &None);
     assert_same(&rt, &Quantity::from_name("page"), &None);
