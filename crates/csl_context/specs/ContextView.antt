@@ -237,6 +237,15 @@ restore_format now (f ∷ fs) = record now { inherited = record now.inherited { 
 abbrev pub without_format : {T : Type 0} → ContextView T → ContextView T
 without_format now = restore_format now now.formats
 
+-- the context in which a node's formatting is over the inherited one; `formats` stays, since the
+-- caller keeps the inherited one
+abbrev pub in_format : {T : Type 0} → partial.Formatting → ContextView T → ContextView T
+in_format f now = record now { inherited = with_node_formatting f now.inherited }
+
+-- the context in which this formatting is inherited
+abbrev pub with_inherited_format : {T : Type 0} → Formatting → ContextView T → ContextView T
+with_inherited_format f now = record now { inherited = record now.inherited { formatting = f } }
+
 -- the context with this delimiter, or none, instead of the inherited one
 abbrev pub with_delimiter : {T : Type 0} → Option (List ℕ) → ContextView T → ContextView T
 with_delimiter d now = record now {
@@ -250,6 +259,11 @@ restore_delimiter now (d ∷ ds) = record now { inherited = record now.inherited
 
 abbrev pub without_delimiter : {T : Type 0} → ContextView T → ContextView T
 without_delimiter now = restore_delimiter now now.delimiters
+
+-- the context in which this delimiter, or none, is inherited; `delimiters` stays, since the caller
+-- keeps the one before
+abbrev pub with_inherited_delimiter : {T : Type 0} → Option (List ℕ) → ContextView T → ContextView T
+with_inherited_delimiter d now = record now { inherited = record now.inherited { delimiter = d } }
 
 -- the context with a node's options of names over the inherited ones
 abbrev pub with_options : {T : Type 0} → PartialOptions → ContextView T → ContextView T

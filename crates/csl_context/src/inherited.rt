@@ -1,13 +1,14 @@
 //! Calls that set inherited values: formatting, delimiter, options of names, period stripping.
 
-ghost use Rattle.std.specs.Prelude.{◌≡◌, ◌<◌, ◌||◌, length, false, true, option_map};
+ghost use Rattle.std.specs.Prelude.{◌≡◌, ◌<◌, ◌||◌, length, false, true, option_map, IfOk, IfErr};
 ghost use Rattle.std.specs.Bool.{OnFalse};
 ghost use Rattle.csl_elements.specs.NameOptions.{partial_options};
-ghost use Rattle.csl_context.specs.ContextView.{Runs, with_format, without_format, with_delimiter, without_delimiter, with_options, without_options, with_stripping};
+ghost use Rattle.csl_context.specs.ContextView.{Runs, with_format, without_format, with_delimiter, without_delimiter, with_options, without_options, with_stripping, in_format, with_inherited_format, with_inherited_delimiter};
 
 use crate::context::Context;
 use crate::error::RenderError;
 use csl_style::{InheritableNameOptions, formatting};
+use csl_tree::Formatting;
 
 impl<'s, T> Context<'s, T> {
     /// Puts a node's formatting over the inherited one until [`Context::pop_format`].
@@ -134,5 +135,62 @@ impl<'s, T> Context<'s, T> {
         ensures { self.new ≡ with_stripping old self.old }
     {
         self.writing.strip_periods = old;
+    }
+
+    /// Puts a node's formatting over the inherited one, and returns the inherited one. The caller
+    /// keeps it for [`Context::leave_format`]. Unlike [`Context::push_format`], this never runs out
+    /// of memory.
+    ///
+    /// # Errors
+    /// [`RenderError::Failed`]: the context had failed already.
+    pub fn enter_format(
+        &mut self,
+        format: formatting::Formatting,
+    ) -> Result<Formatting, RenderError>
+        ensures after { Runs (in_format format) result self.old self.new }
+        ensures before { IfOk result (λ before. before ≡ self.old.inherited.formatting) }
+        ensures err { IfErr result (λ e. e ≡ RenderError.Failed) }
+    {
+        self.ensure_live()?;
+        let before = self.writing.formatting;
+        self.writing.formatting = before.apply(format);
+        Ok(before)
+    }
+
+    /// Restores the formatting that [`Context::enter_format`] returned.
+    pub fn leave_format(&mut self, before: Formatting)
+        ensures { self.new ≡ with_inherited_format before self.old }
+    {
+        self.writing.formatting = before;
+    }
+
+    /// Replaces the inherited delimiter by this one, or by none, and returns the inherited one. The
+    /// caller keeps it for [`Context::leave_delimiter`]. Unlike [`Context::push_delimiter`], this
+    /// never runs out of memory.
+    ///
+    /// # Errors
+    /// [`RenderError::Failed`]: the context had failed already.
+    pub fn enter_delimiter(
+        &mut self,
+        delimiter: Option<&'s str>,
+    ) -> Result<Option<&'s str>, RenderError>
+        ensures after { Runs (with_inherited_delimiter (option_map (λ t. t.now) delimiter.entry))
+            result self.old self.new }
+        ensures before { IfOk result (λ before. option_map (λ t. t.now) before
+            ≡ self.old.inherited.delimiter) }
+        ensures err { IfErr result (λ e. e ≡ RenderError.Failed) }
+    {
+        self.ensure_live()?;
+        let before = self.writing.delimiter;
+        self.writing.delimiter = delimiter;
+        Ok(before)
+    }
+
+    /// Restores the delimiter that [`Context::enter_delimiter`] returned.
+    pub fn leave_delimiter(&mut self, before: Option<&'s str>)
+        ensures { self.new
+            ≡ with_inherited_delimiter (option_map (λ t. t.now) before.entry) self.old }
+    {
+        self.writing.delimiter = before;
     }
 }

@@ -3,13 +3,14 @@
 use crate::csl_context_tests::film::{Film, UNANSWERED, metropolis};
 use crate::csl_context_tests::lookups::{look, look_and_suppress, suppress_genre};
 use crate::csl_context_tests::queries::{
-    ask_cite, ask_locale, ask_terms, attempt, delimit, inherit_options, keep_names, mark_dates,
+    ask_cite, ask_locale, ask_terms, attempt, delimit, enter_delimiters, inherit_options,
+    keep_names, mark_dates,
 };
 use crate::csl_context_tests::samples::{affixes, style};
 use crate::csl_context_tests::words::say;
 use crate::csl_context_tests::writes::{
-    affix, discard, dress, format, join, nest, quote_twice, space, splice, strip, write_in,
-    write_pieces,
+    affix, discard, dress, enter_formats, format, join, nest, quote_twice, space, splice, strip,
+    write_in, write_pieces,
 };
 use crate::shared::alone;
 use csl_context::{Context, RenderError, Rendered};
@@ -32,11 +33,13 @@ pub(crate) enum Act {
     QuoteTwice,
     Dress(&'static str),
     Format,
+    EnterFormats,
     WriteIn,
     Strip,
     WritePieces,
     Space,
     Delimit,
+    EnterDelimiters,
     InheritOptions,
     AskTerms,
     AskLocale,
@@ -60,11 +63,13 @@ fn perform(ctx: &mut Context<'_, Film>, affixes: &Affixes, act: Act) -> Result<(
         Act::QuoteTwice => quote_twice(ctx),
         Act::Dress(text) => dress(ctx, affixes, text),
         Act::Format => format(ctx),
+        Act::EnterFormats => enter_formats(ctx),
         Act::WriteIn => write_in(ctx),
         Act::Strip => strip(ctx),
         Act::WritePieces => write_pieces(ctx),
         Act::Space => space(ctx),
         Act::Delimit => delimit(ctx),
+        Act::EnterDelimiters => enter_delimiters(ctx),
         Act::InheritOptions => inherit_options(ctx),
         Act::AskTerms => ask_terms(ctx),
         Act::AskLocale => ask_locale(ctx),
@@ -300,7 +305,7 @@ fn assert_words(rt: &impl Abort, said: &str, wanted: &str, act: Act) {
 }
 
 /// An act, and its rendering in the words of [`say`].
-static ACTS: [(Act, &str); 30] = [
+static ACTS: [(Act, &str); 32] = [
     (Act::Join, "ab"),
     // An element without content is dropped, whatever its display and its meta are.
     (Act::Nest("b"), "[ a [ b ]block:date ]"),
@@ -321,12 +326,14 @@ static ACTS: [(Act, &str); 30] = [
     (Act::Dress("a.b."), "/(“ab,”~ c.d."),
     (Act::Dress(""), "c.d."),
     (Act::Format, "/a /*b c"),
+    (Act::EnterFormats, "/a /*b /c d"),
     (Act::WriteIn, "/a *~ b"),
     (Act::Strip, "abcd.no|yes|"),
     // Verbatim texts, mathematics and links keep their periods. A link without text is not written.
     (Act::WritePieces, "ab. $c. @t.|u. #3"),
     (Act::Space, "a~byes|no|yes|no|"),
     (Act::Delimit, ";~|none|;~|none|"),
+    (Act::EnterDelimiters, ";~|none|;~|none|"),
     // The citation's own delimiter of names overrides that of the style.
     (Act::InheritOptions, "b|s|c|"),
     // A missing verb form falls back to the long form.

@@ -41,6 +41,22 @@ pub(crate) fn delimit(ctx: &mut Context<'_, Film>) -> Result<(), RenderError> {
     Ok(())
 }
 
+/// Enters a delimiter and none, and leaves both. Writes the inherited delimiter after each call.
+pub(crate) fn enter_delimiters(ctx: &mut Context<'_, Film>) -> Result<(), RenderError> {
+    let base = ctx.enter_delimiter(Some("; "))?;
+    let one = ctx.delimiter();
+    let outer = ctx.enter_delimiter(None)?;
+    let none = ctx.delimiter();
+    ctx.leave_delimiter(outer);
+    let again = ctx.delimiter();
+    ctx.leave_delimiter(base);
+    put(ctx, one)?;
+    put(ctx, none)?;
+    put(ctx, again)?;
+    let left = ctx.delimiter();
+    put(ctx, left)
+}
+
 /// Writes the delimiter and the separator of names inside the options of the bibliography, and the
 /// delimiter after them.
 pub(crate) fn inherit_options(ctx: &mut Context<'_, Film>) -> Result<(), RenderError> {

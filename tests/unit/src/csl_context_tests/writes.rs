@@ -101,6 +101,19 @@ pub(crate) fn format(ctx: &mut Context<'_, Film>) -> Result<(), RenderError> {
     Ok(())
 }
 
+/// Writes the texts of [`format`] with formattings that are entered and left.
+pub(crate) fn enter_formats(ctx: &mut Context<'_, Film>) -> Result<(), RenderError> {
+    let base = ctx.enter_format(italic())?;
+    ctx.push_str("a")?;
+    let italics = ctx.enter_format(bold())?;
+    ctx.push_str("b")?;
+    ctx.leave_format(italics);
+    ctx.push_str("c")?;
+    ctx.leave_format(base);
+    ctx.push_str("d")?;
+    Ok(())
+}
+
 /// Writes a text in italics, a space in bold, and a text in neither, without pushing a format.
 pub(crate) fn write_in(ctx: &mut Context<'_, Film>) -> Result<(), RenderError> {
     ctx.push_str_in("a", italic())?;

@@ -87,6 +87,18 @@ fn inherited_values<'s, T>(
     has_type::<(), _>(&ctx.stop_stripping_periods(strip));
 }
 
+fn values_kept_by_the_caller<'s, T>(
+    ctx: &mut Context<'s, T>,
+    formatting: Formatting,
+    format_before: csl_tree::Formatting,
+    delimiter: Option<&'s str>,
+) {
+    has_type::<Result<csl_tree::Formatting, RenderError>, _>(&ctx.enter_format(formatting));
+    has_type::<(), _>(&ctx.leave_format(format_before));
+    has_type::<Result<Option<&'s str>, RenderError>, _>(&ctx.enter_delimiter(delimiter));
+    has_type::<(), _>(&ctx.leave_delimiter(delimiter));
+}
+
 fn texts<T>(
     ctx: &mut Context<'_, T>,
     text: &str,

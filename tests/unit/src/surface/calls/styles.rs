@@ -15,6 +15,7 @@ use std::slice::Iter;
 fn values() {
     let _: fn(Formatting, Formatting) -> Formatting = Formatting::apply;
     let _: fn(&str) -> Option<Kind> = Kind::from_name;
+    let _: fn(&Kind) -> &'static str = Kind::name;
     let _: fn(&str) -> Option<Variable> = Variable::from_name;
     let _: fn(&Variable) -> &'static str = Variable::name;
     let _: fn(&str) -> Option<StandardVariable> = StandardVariable::from_name;
