@@ -31,7 +31,7 @@ inside_planned w fs (Some p) inside h same = rw same h
 -- names have a plan of their first substitute
 pub names_planned : (w : RenderInput) (s : State) (env : List ℕ → Option ExpandedNodes) (x : Names) (plan : Option (Bor NodePlan)) → IfSome plan (λ p. IsPlan w s (expand env (view_names x)) p.now) → IfSome plan (λ p. HasPlansOfSubstitutes w (expanded_substitutes_of env x) p.now)
 names_planned w s env x None h = tt
-names_planned w s env x (Some p) h = substitutes_inside w (dry_view p.now.inside.at.now) s env x p.now.inside.items.now h.1
+names_planned w s env x (Some p) h = substitutes_inside w (dry_view p.now.inside.at.now) s env x p.now.inside.items.now h.2
 
 -- the plan of the first substitute is that of its children
 pub substitute_planned : (w : RenderInput) (ss : ExpandedSubstitutes) (fs : ExpandedNodes) → ((at : DryView) → (is : List PlanItem) → AreOfSubstitutes w at ss is → AreItems w at fs is)
@@ -43,7 +43,7 @@ substitute_planned w ss fs planned (Some p) h = planned (dry_view p.now.inside.a
 pub taken_planned : (w : RenderInput) (s : State) (f : ExpandedNode) (fs : ExpandedNodes) → ((at : DryView) → (is : List PlanItem) → AreInside w at s f is → AreItems w at fs is)
     → (plan : Option (Bor NodePlan)) → IfSome plan (λ p. IsPlan w s f p.now) → IfSome plan (λ p. HasPlans w fs p.now)
 taken_planned w s f fs planned None h = tt
-taken_planned w s f fs planned (Some p) h = planned (dry_view p.now.inside.at.now) p.now.inside.items.now h.1
+taken_planned w s f fs planned (Some p) h = planned (dry_view p.now.inside.at.now) p.now.inside.items.now h.2
 
 -- ---- calls that change the context by an equal function
 

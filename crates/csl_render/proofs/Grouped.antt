@@ -6,7 +6,7 @@ use Rattle.csl_style.specs.Expanded.{macro_env}
 use Rattle.csl_tree.specs.Content.{elem_content}
 use Rattle.csl_entry.specs.Answers.{Answers}
 use Rattle.csl_context.specs.Bodies.{BodyAttributes, values_before, with_open_body, with_closed_body}
-use Rattle.csl_context.specs.ContextView.{ContextView, render_input, with_part, close_part_by, with_delimiter, without_delimiter}
+use Rattle.csl_context.specs.ContextView.{ContextView, render_input, with_part, close_part_by, with_inherited_delimiter}
 use Rattle.csl_render.specs.Tree.{shown_if, delimited_output}
 use Rattle.csl_nodes.specs.Text.{with_output}
 
@@ -17,7 +17,7 @@ module _ {T : Type 0} (answers : T → Answers) where
 
   -- the context after the children, with the group's delimiter between them
   abbrev pub with_delimited : Option (List ℕ) → Nodes → ContextView T → ContextView T
-  with_delimited delimiter ns now = without_delimiter (with_children ns (with_delimiter delimiter now))
+  with_delimited delimiter ns now = with_inherited_delimiter now.inherited.delimiter (with_children ns (with_inherited_delimiter delimiter now))
 
   abbrev pub grouped_by : BodyAttributes → Option Display → Bool → Option (List ℕ) → Nodes → ContextView T → ContextView T
   grouped_by d display shows delimiter ns now =

@@ -75,7 +75,7 @@ any_if : (b : Bool) (p : Variable → Bool) (v : Variable) (vs : List Variable) 
 any_if true p v vs h = any_after variable_cmp p v vs h
 any_if false p v vs h = h
 
-look_keeps : (v : Variable) (s : State) → Keeps s (state_after_resolve v s)
+pub look_keeps : (v : Variable) (s : State) → Keeps s (state_after_resolve v s)
 look_keeps v s = record { switch = refl; suppressed = λ u h. any_if s.suppressing (is_at (variable_cmp u)) v s.suppressed h; date = λ h. h; names = λ h. refl }
 
 looks_keep : (w : RenderInput) (vs : List NameVariable) (s : State) → Keeps s (state_after_resolve_all w s vs)

@@ -1,39 +1,45 @@
 -- Plans. The dry run of a group, a macro, names or a choice adds the plan of the nodes inside.
 use Rattle.std.proofs.Common.{◌≡◌, ℕ, ◌<◌, ◌+◌, ◌-◌, ◌++◌, get_or, set, drop, suc, Bool, true, false, length, subst, List, [], ◌∷◌, Option, Some, None, option_map, map, if◌then◌else◌, refl, sym, ap, ap₂, ◌∙◌, arith}
+use Rattle.std.specs.Prelude.{◌||◌, ◌&&◌}
 use Rattle.std.specs.Bool.{MatchBool}
+use Rattle.std.proofs.lemmas.Bool.{false≢true}
 use Rattle.std.proofs.lemmas.List.{append-nil, append_assoc, at_drop_more, drop_at, length-append, set_at, take_at}
 use Rattle.csl_elements.specs.declared.element.Choose.{Choose, out-Choose}
 use Rattle.csl_elements.specs.declared.element.ChooseBranch.{ChooseBranch}
 use Rattle.csl_elements.specs.declared.element.Group.{Group}
 use Rattle.csl_elements.specs.declared.element.LayoutRenderingElement.{LayoutRenderingElement}
 use Rattle.csl_elements.specs.declared.element.Names.{Names}
+use Rattle.csl_elements.specs.declared.taxonomy.NameVariable.TheVariants.{Author}
+use Rattle.csl_elements.specs.declared.taxonomy.Variable.TheVariants as variable
+use Rattle.csl_elements.specs.Names.{NamesNode}
 use Rattle.csl_elements.specs.NamesParts.{names_node}
 use Rattle.csl_elements.specs.Node.{Node, Nodes, Branches, no_branches, otherwise, branch, ExpandedNode, expanded_text, expanded_macro, unknown_macro, expanded_number, expanded_label, expanded_date, expanded_names, shorthand, expanded_choose, expanded_group, ExpandedNodes, no_expanded_nodes, expanded_node, ExpandedBranches, no_expanded_branches, expanded_otherwise, expanded_branch, ExpandedSubstitutes, no_expanded_substitutes, expanded_substitute, expand, expand_nodes, expand_branches}
 use Rattle.csl_style.specs.Expanded.{macro_env}
 use Rattle.csl_elements.specs.View.{view_node, view_branch, view_choose, view_group, view_names, view_nodes, branches_of}
 use Rattle.csl_entry.specs.Alike.{Each}
+use Rattle.csl_entry.specs.declared.citation.cite.SpecialForm.{SpecialForm}
+use Rattle.csl_entry.specs.declared.citation.cite.SpecialForm.TheVariants.{VarOnly, OnlyFirstDate, OnlyYearSuffix, SuppressAuthor}
 use Rattle.csl_context.specs.State.{State}
 use Rattle.csl_context.specs.ContextView.{ContextView, render_input}
 use Rattle.csl_context.specs.RenderInput.{RenderInput}
 use Rattle.csl_entry.specs.Answers.{Answers}
 use Rattle.csl_names.specs.NamesForms.{writes_no_name}
-use Rattle.csl_names.specs.NamesLists.{all_empty, peeked_lists}
+use Rattle.csl_names.specs.NamesLists.{PersonLists, all_empty, peeked_lists}
 use Rattle.csl_nodes.specs.Conditions.{branch_matches, chosen_nodes, chosen_children}
 use Rattle.csl_nodes.specs.Usage.{Info, group_info, info_view, no_info}
 use Rattle.csl_render.specs.declared.plan.AskedNode.{AskedNode}
 use Rattle.csl_render.specs.declared.plan.NodeInfo.{NodeInfo}
 use Rattle.csl_render.specs.declared.plan.PlanItem.{PlanItem}
 use Rattle.csl_render.specs.DryRun.{Adds, Run}
-use Rattle.csl_render.specs.Expanded.{expanded, expanded_substitutes}
-use Rattle.csl_render.specs.Names.{names_or_substitute_info, expanded_substitutes_of}
+use Rattle.csl_render.specs.Names.{author, has_variable, is_refused, names_show, names_or_substitute_info, expanded_substitutes_of}
 use Rattle.csl_elements.specs.declared.variable_set.VariableSet.{VariableSet}
-use Rattle.csl_render.specs.Plan.{DryView, dry, dry_now, dry_view, AreSuppressedAlike, AreAlikeOn, HasTested, HasAllTested, HasReadByNames, answer_of, AreInside, AreItems, AreTaken, AreOfTaken, AreOfSubstitutes, IsInfo, IsInfoOfNodes, IsInfoOfSubstitutes, IsDryRun}
-use Rattle.csl_render.specs.Tree.{info, nodes_info, refused_in, substitute_info, choice_info}
-use Rattle.csl_elements.specs.VariableSet.{IsWithin}
-use Rattle.csl_render.proofs.Chosen.{IsChoice, is_choice, choice_out, info_of_choice}
+use Rattle.csl_render.specs.Plan.{DryView, asks_for_author, dry, dry_now, dry_view, AreSuppressedAlike, AreAlikeOn, HasTested, HasAllTested, TellsAuthor, answer_of, AreInside, AreItems, AreTaken, AreOfTaken, AreOfSubstitutes, IsInfo, IsInfoOfNodes, IsInfoOfSubstitutes, IsDryRun}
+use Rattle.csl_render.specs.Tree.{info, nodes_info, substitute_info, choice_info, shows, any_shows, substitute_shows, choice_shows}
+use Rattle.csl_elements.specs.VariableSet.{Has, IsWithin}
+use Rattle.csl_render.proofs.Chosen.{IsChoice, is_choice, choice_out, info_of_choice, shows_of_choice}
 use Rattle.csl_render.proofs.GroupView.{group_out}
 use Rattle.csl_render.proofs.NamesView.{names_out}
-use Rattle.csl_render.proofs.Reading.{matches_same, names_info_same, alike_within, alike_to_itself}
+use Rattle.csl_render.proofs.Reading.{matches_same, lists_same, alike_within, alike_to_itself}
 
 -- ---- no plan
 
@@ -111,9 +117,10 @@ module _ {T : Type 0} where
         hold = (inside.more, refl, inside.hold);
       }
 
-  -- a node without nodes inside
-  pub leaf : (answers : T → Answers) (run : Run T) (f : ExpandedNode) (i : NodeInfo) → ((s : State) → AreAlikeOn (render_input answers run.now) i.read (dry_now run.now) s → answer_of i ≡ info (render_input answers run.now) s f) → Adds (IsInfo (render_input answers run.now) (dry_now run.now) f i) run run
-  leaf answers run f i h = adds_none (IsInfo (render_input answers run.now) (dry_now run.now) f i) run (λ s alike. (h s alike, none_inside (render_input answers run.now) (dry_now run.now) s f))
+  -- a node without nodes inside does not show the author
+  pub leaf : (answers : T → Answers) (run : Run T) (f : ExpandedNode) (i : NodeInfo) → i.shows_author ≡ false → ((s : State) → TellsAuthor (render_input answers run.now) false (shows (render_input answers run.now) s author f))
+      → ((s : State) → AreAlikeOn (render_input answers run.now) i.read (dry_now run.now) s → answer_of i ≡ info (render_input answers run.now) s f) → Adds (IsInfo (render_input answers run.now) (dry_now run.now) f i) run run
+  leaf answers run f i told silent h = adds_none (IsInfo (render_input answers run.now) (dry_now run.now) f i) run (λ s alike. (h s alike, λ asks. told ∙ silent s asks, none_inside (render_input answers run.now) (dry_now run.now) s f))
 
 -- ---- node by node
 
@@ -125,7 +132,7 @@ nodes_from env ns i x within is = at_drop_more (λ l. expand_nodes env (view_nod
 pub first_planned : (w : RenderInput) (d : DryView) (f : ExpandedNode) (fs : ExpandedNodes) (i : NodeInfo) (inside others : List PlanItem) → IsInfo w d f i inside → AreItems w d fs others → AreItems w d (expanded_node f fs) (record { info = i; inside = length inside } ∷ (inside ++ others))
 first_planned w d f fs i inside others one rest = (
   (let long = length-append inside others in omega (arith, long)),
-  (λ s alike. subst (λ is. (answer_of i ≡ info w s f) × AreInside w d s f is) (sym (take_at inside others (length inside) refl)) (one s alike)),
+  (λ s alike. subst (λ is. (answer_of i ≡ info w s f) × TellsAuthor w i.shows_author (shows w s author f) × AreInside w d s f is) (sym (take_at inside others (length inside) refl)) (one s alike)),
   subst (λ is. AreItems w d fs is) (sym (drop_at inside others (length inside) refl)) rest,
 )
 
@@ -155,12 +162,13 @@ names_asked w d s env x is h = subst (λ n. AreInside w d s (expand env n) is) (
 
 -- what a dry run from an empty plan gives
 pub asked : {T : Type 0} (answers : T → Answers) (now : ContextView T) (f : ExpandedNode) (i : NodeInfo) (end : Run T) (r : AskedNode) → Adds (IsInfo (render_input answers now) (dry_now now) f i) (record { now = now; items = [] }) end
-    → dry_view r.at ≡ dry_now now → r.answer ≡ i.answer → r.inside.items ≡ end.items → IsDryRun answers now f r
-asked answers now f i end r h at answer inside =
+    → dry_view r.at ≡ dry_now now → r.answer ≡ i.answer → r.shows_author ≡ i.shows_author → r.inside.items ≡ end.items → IsDryRun answers now f r
+asked answers now f i end r h at answer told inside =
     let w = render_input answers now in
     let holds = h.hold now.state (alike_to_itself w i.read now.state) in (
       ap info_view answer ∙ holds.0,
-      subst (λ d. AreInside w d now.state f r.inside.items) (sym at) (subst (AreInside w (dry_now now) now.state f) (sym (inside ∙ ap (λ r. r.items) h.added)) holds.1),
+      λ asks. told ∙ holds.1 asks,
+      subst (λ d. AreInside w d now.state f r.inside.items) (sym at) (subst (AreInside w (dry_now now) now.state f) (sym (inside ∙ ap (λ r. r.items) h.added)) holds.2),
     )
 
 -- ---- the nodes that a choice takes
@@ -217,45 +225,78 @@ module _ (w : RenderInput) (s t : State) (read : VariableSet) (alike : AreSuppre
 
 -- ---- a node around nodes, by the dry run of these nodes
 
-module _ (w : RenderInput) (d : DryView) (i r : NodeInfo) (read : r.read ≡ i.read) where
-  pub around : (fs : ExpandedNodes) (f : Info → Info) (is : List PlanItem) → IsInfoOfNodes w d fs i is → answer_of r ≡ f (answer_of i) → (s : State) → AreAlikeOn w r.read d s → (answer_of r ≡ f (nodes_info w s fs)) × AreItems w d fs is
-  around fs f is h e s alike = (e ∙ ap f (h.0 s (subst (λ x. AreAlikeOn w x d s) read alike)), h.1)
+module _ (w : RenderInput) (d : DryView) (i r : NodeInfo) (read : r.read ≡ i.read) (told : r.shows_author ≡ i.shows_author) where
+  pub around : (fs : ExpandedNodes) (f : Info → Info) (is : List PlanItem) → IsInfoOfNodes w d fs i is → answer_of r ≡ f (answer_of i)
+      → (s : State) → AreAlikeOn w r.read d s → (answer_of r ≡ f (nodes_info w s fs)) × TellsAuthor w r.shows_author (any_shows w s author fs) × AreItems w d fs is
+  around fs f is h e s alike =
+      let holds = h.0 s (subst (λ x. AreAlikeOn w x d s) read alike) in
+      (e ∙ ap f holds.0, λ asks. told ∙ holds.1 asks, h.1)
 
   pub around_group : (env : List ℕ → Option ExpandedNodes) (g : Group) (is : List PlanItem) → IsInfoOfNodes w d (expand_nodes env (view_nodes g.children.items)) i is → answer_of r ≡ group_info (answer_of i) → IsInfo w d (expand env (view_group g)) r is
   around_group env g is h e = subst (λ n. IsInfo w d (expand env n) r is) (sym (group_out g)) (around _ group_info is h e)
 
 -- the result for a choice, by that for the nodes that it takes in the state of the dry run
 pub around_taken : (w : RenderInput) (s : State) (env : List ℕ → Option ExpandedNodes) (c : Choose) (taken : Option Nodes) (tested : VariableSet) (r : NodeInfo) (is : List PlanItem) → HasAllTested tested c → IsWithin tested r.read → taken ≡ chosen_children w s (view_choose c)
-    → ((u : State) → AreAlikeOn w r.read (dry w.instance.special s) u → answer_of r ≡ choice_info w u (option_map (expand_nodes env) taken)) → AreOfTaken w (dry w.instance.special s) (option_map (expand_nodes env) taken) is
-    → IsInfo w (dry w.instance.special s) (expand env (view_choose c)) r is
-around_taken w s env c taken tested r is has within here answers inside u alike =
-    let there = here ∙ same_chosen w s u tested (λ v h. alike.1 v (within v h)) c has in (
-      answers u alike ∙ ap (λ o. choice_info w u (option_map (expand_nodes env) o)) there ∙ sym (info_of_choice w u env c),
+    → ((u : State) → AreAlikeOn w r.read (dry w.instance.special s) u → (answer_of r ≡ choice_info w u (option_map (expand_nodes env) taken)) × TellsAuthor w r.shows_author (choice_shows w u author (option_map (expand_nodes env) taken)))
+    → AreOfTaken w (dry w.instance.special s) (option_map (expand_nodes env) taken) is → IsInfo w (dry w.instance.special s) (expand env (view_choose c)) r is
+around_taken w s env c taken tested r is has within here tells inside u alike =
+    let there = here ∙ same_chosen w s u tested (λ v h. alike.1 v (within v h)) c has in
+    let told = tells u alike in (
+      told.0 ∙ ap (λ o. choice_info w u (option_map (expand_nodes env) o)) there ∙ sym (info_of_choice w u env c),
+      λ asks. told.1 asks ∙ ap (λ o. choice_shows w u author (option_map (expand_nodes env) o)) there ∙ sym (shows_of_choice w u env author c),
       asked_nodes w env (dry w.instance.special s) u is c (subst (λ o. AreOfTaken w (dry w.instance.special s) (option_map (expand_nodes env) o) is) there inside),
     )
 
--- the result for names, by what the dry run finds of their lists, and the result for their substitutes
-pub around_names : {T : Type 0} (answers : T → Answers) (now : ContextView T) (x : Names) (own : VariableSet) (empty void refused : Bool) (r : NodeInfo) (is : List PlanItem) → HasReadByNames now.special (names_node x).variables own → IsWithin own r.read
-    → empty ≡ all_empty (peeked_lists (render_input answers now) now.state (names_node x).variables) → void ≡ writes_no_name (names_node x) (peeked_lists (render_input answers now) now.state (names_node x).variables)
-    → refused ≡ refused_in (render_input answers now) (names_node x) (expanded_substitutes now.style x) empty now.state
-    → ((u : State) → AreAlikeOn (render_input answers now) r.read (dry_now now) u → answer_of r ≡ (if refused then no_info else names_or_substitute_info void (substitute_info (render_input answers now) u (expanded_substitutes now.style x))))
-    → AreOfSubstitutes (render_input answers now) (dry_now now) (expanded_substitutes now.style x) is → IsInfo (render_input answers now) (dry_now now) (expanded now.style (view_names x)) r is
-around_names answers now x own empty void refused r is has within empties voids refuses told inside u alike =
-    let w = render_input answers now in
-    let e = macro_env now.style in
-    let n = names_node x in
-    let ss = expanded_substitutes now.style x in
-    let ls = peeked_lists w now.state n.variables in
-    let sub = substitute_info w u ss in (
-      told u alike
-          ∙ ap (λ b. if refused then no_info else names_or_substitute_info b sub) voids
-          ∙ ap (λ b. if b then no_info else names_or_substitute_info (writes_no_name n ls) sub) (refuses ∙ ap (λ b. refused_in w n ss b now.state) empties)
-          ∙ sym (names_info_same w now.state u own (alike_within w own r.read (dry_now now) u within alike) n ss has)
-          ∙ ap (λ n. info w u (expand e n)) (sym (names_out x)),
-      names_asked w (dry_now now) u e x is inside,
-    )
-
 -- the result for substitutes, by that for the children of the first
-pub around_first : (w : RenderInput) (d : DryView) (ss : ExpandedSubstitutes) (taken : Option ExpandedNodes) (r : NodeInfo) (is : List PlanItem) → ((u : State) → substitute_info w u ss ≡ choice_info w u taken) → (AreOfTaken w d taken is → AreOfSubstitutes w d ss is)
-    → ((u : State) → AreAlikeOn w r.read d u → answer_of r ≡ choice_info w u taken) → AreOfTaken w d taken is → IsInfoOfSubstitutes w d ss r is
-around_first w d ss taken r is same from answers inside = (λ u alike. answers u alike ∙ sym (same u), from inside)
+pub around_first : (w : RenderInput) (d : DryView) (ss : ExpandedSubstitutes) (taken : Option ExpandedNodes) (r : NodeInfo) (is : List PlanItem) → ((u : State) → substitute_info w u ss ≡ choice_info w u taken) → ((u : State) → substitute_shows w u author ss ≡ choice_shows w u author taken) → (AreOfTaken w d taken is → AreOfSubstitutes w d ss is)
+    → ((u : State) → AreAlikeOn w r.read d u → (answer_of r ≡ choice_info w u taken) × TellsAuthor w r.shows_author (choice_shows w u author taken)) → AreOfTaken w d taken is → IsInfoOfSubstitutes w d ss r is
+around_first w d ss taken r is same shown from tells inside = (λ u alike. ((tells u alike).0 ∙ sym (same u), λ asks. (tells u alike).1 asks ∙ sym (shown u)), from inside)
+
+-- ---- names
+
+module _ (n : NamesNode) (ss : ExpandedSubstitutes) where
+  more_shown : (own empty sub : Bool) → (own || (empty && false)) ≡ true → (own || (empty && sub)) ≡ true
+  more_shown true empty sub h = refl
+  more_shown false true sub h = absurd (false≢true h)
+  more_shown false false sub h = absurd (false≢true h)
+
+  -- names that are refused even if their substitute does not show the author
+  pub refused_alone : (special : Option SpecialForm) (empty sub : Bool) → is_refused special n empty ss (names_show author n empty false) ≡ true
+      → (is_refused special n empty ss (names_show author n empty sub) ≡ true) × (asks_for_author special ≡ true → names_show author n empty false ≡ names_show author n empty sub)
+  refused_alone None empty sub h = (h, λ asks. absurd (false≢true asks))
+  refused_alone (Some (VarOnly v)) empty sub h = (h, λ asks. absurd (false≢true asks))
+  refused_alone (Some OnlyFirstDate) empty sub h = (h, λ asks. absurd (false≢true asks))
+  refused_alone (Some OnlyYearSuffix) empty sub h = (h, λ asks. absurd (false≢true asks))
+  refused_alone (Some SuppressAuthor) empty sub h = let more = more_shown (has_variable Author n.variables) empty sub h in (more, λ asks. h ∙ sym more)
+
+  module _ (w : RenderInput) where
+    -- whether names show the author in a state, and their dry run, if this holds of their lists
+    abbrev pub shown_by : Bool → State → Bool
+    shown_by empty u = names_show author n empty (substitute_shows w u author ss)
+
+    abbrev pub told_by : Bool → Bool → State → Info
+    told_by empty void u = if is_refused w.instance.special n empty ss (shown_by empty u) then no_info else names_or_substitute_info void (substitute_info w u ss)
+
+    names_told : (s : State) (own : VariableSet) (empty void : Bool) (r : NodeInfo) (is : List PlanItem) → Each (λ v. Has own (variable.Name v)) n.variables → IsWithin own r.read
+        → empty ≡ all_empty (peeked_lists w s n.variables) → void ≡ writes_no_name n (peeked_lists w s n.variables)
+        → ((u : State) → AreAlikeOn w r.read (dry w.instance.special s) u → (answer_of r ≡ told_by empty void u) × TellsAuthor w r.shows_author (shown_by empty u))
+        → AreOfSubstitutes w (dry w.instance.special s) ss is → IsInfo w (dry w.instance.special s) (expanded_names n ss) r is
+    names_told s own empty void r is has within empties voids tells inside u alike =
+        let told = tells u alike in
+        let lists = lists_same w s u own (alike_within w own r.read (dry w.instance.special s) u within alike).1 n.variables has in (
+          told.0
+              ∙ ap (λ b. told_by empty b u) voids
+              ∙ ap (λ b. told_by b (writes_no_name n (peeked_lists w s n.variables)) u) empties
+              ∙ ap (λ (ls : PersonLists). told_by (all_empty ls) (writes_no_name n ls) u) lists,
+          λ asks. told.1 asks ∙ ap (λ b. shown_by b u) empties ∙ ap (λ (ls : PersonLists). shown_by (all_empty ls) u) lists,
+          inside,
+        )
+
+-- the result for names, by what the dry run finds of their lists, and the result for their substitutes
+pub around_names : (w : RenderInput) (s : State) (env : List ℕ → Option ExpandedNodes) (x : Names) (own : VariableSet) (empty void : Bool) (r : NodeInfo) (is : List PlanItem) → Each (λ v. Has own (variable.Name v)) (names_node x).variables → IsWithin own r.read
+    → empty ≡ all_empty (peeked_lists w s (names_node x).variables) → void ≡ writes_no_name (names_node x) (peeked_lists w s (names_node x).variables)
+    → ((u : State) → AreAlikeOn w r.read (dry w.instance.special s) u
+    → (answer_of r ≡ told_by (names_node x) (expanded_substitutes_of env x) w empty void u) × TellsAuthor w r.shows_author (shown_by (names_node x) (expanded_substitutes_of env x) w empty u))
+    → AreOfSubstitutes w (dry w.instance.special s) (expanded_substitutes_of env x) is → IsInfo w (dry w.instance.special s) (expand env (view_names x)) r is
+around_names w s env x own empty void r is has within empties voids tells inside =
+    subst (λ m. IsInfo w (dry w.instance.special s) (expand env m) r is) (sym (names_out x)) (names_told (names_node x) (expanded_substitutes_of env x) w s own empty void r is has within empties voids tells inside)

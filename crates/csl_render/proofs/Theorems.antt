@@ -16,12 +16,13 @@ use Rattle.csl_entry.specs.Snapshot.{snapshot_of, kept_in}
 use Rattle.csl_entry.proofs.Kept.{alike_of, same_named}
 use Rattle.csl_context.specs.ContextView.{initial_state, base_inherited}
 use Rattle.csl_render.specs.CiteContent.{special_cite, whole_cite, named_by, AgreeButForAuthors}
-use Rattle.csl_render.specs.Laws.{AlikeEntriesRenderAlike, RenderingKeepsState, SnapshotsRenderAlike, AnswersDecide, EqualSnapshotsCiteAlike, SuppressedAuthorsAreSilent}
+use Rattle.csl_render.specs.Laws.{AlikeEntriesRenderAlike, RenderingKeepsState, SnapshotsRenderAlike, AnswersDecide, EqualSnapshotsCiteAlike, SuppressedAuthorsAreSilent, SortKeysOrderAsDates}
 use Rattle.csl_render.specs.Names.{author}
 use Rattle.csl_render.specs.PairOutput.{cite_input}
 use Rattle.csl_render.specs.Tested.{tested_by}
 use Rattle.csl_render.proofs.AuthorSilent.{author_silent}
 use Rattle.csl_render.proofs.AlikeNodes.{layout_alike}
+use Rattle.csl_render.proofs.DatesInOrder.{keys_order}
 use Rattle.csl_render.proofs.Pairs.{printed_alike}
 use Rattle.csl_render.proofs.KeepsNodes as keeps
 
@@ -63,3 +64,7 @@ whole_cite_decided style cite a b alike = answers_decide style Citation cite Non
 
 pub special_cite_decided : (style : StyleParts) (cite : CiteState) (form : SpecialForm) (a b : Answers) → SameNamedAnswers (named_by style style.citation) a b → special_cite style cite form a ≡ special_cite style cite form b
 special_cite_decided style cite form a b alike = answers_decide style Citation cite None (Some form) style.citation a b alike
+
+-- The sort keys of two entries by one date alone compare as the dates do.
+pub sort_keys_order_as_dates : SortKeysOrderAsDates
+sort_keys_order_as_dates style scope cite sorting a layout = keys_order style scope cite sorting a layout

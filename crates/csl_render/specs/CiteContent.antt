@@ -59,3 +59,7 @@ HoldsForAlike names a Holds = (others : Answers) → SameNamedAnswers names a ot
 -- both answers agree on a set, but for the authors
 abbrev pub AgreeButForAuthors : NamedSet → Answers → Answers → Type 0
 AgreeButForAuthors names a b = (item : NamedItem) → names item ≡ true → item ≢ a_variable author → SameAnswer a b item
+
+-- a set has all that another has
+abbrev pub Covers : NamedSet → NamedSet → Type 0
+Covers set part = (item : NamedItem) → part item ≡ true → set item ≡ true

@@ -17,7 +17,8 @@ use Rattle.csl_context.specs.RenderInput.{RenderInput}
 use Rattle.csl_nodes.specs.Usage.{Info, no_info, without_group_flag, macro_info}
 use Rattle.csl_render.specs.declared.plan.NodeInfo.{NodeInfo}
 use Rattle.csl_render.specs.declared.plan.PlanItem.{PlanItem}
-use Rattle.csl_render.specs.Plan.{DryView, AreAlikeOn, answer_of}
+use Rattle.csl_render.specs.Names.{author}
+use Rattle.csl_render.specs.Plan.{DryView, AreAlikeOn, answer_of, TellsAuthor}
 use Rattle.csl_render.specs.Tree.{nodes_info, any_shows}
 
 -- the dry run of a text that calls a macro, from the macro's nodes, if the style has it
@@ -37,7 +38,7 @@ nodes_at style (Some place) = macro_env style (name_at (definitions style.macros
 
 -- a result for a text that calls a macro; `d` is what the dry run read of its state
 abbrev pub IsCallInfo : RenderInput → DryView → Option ExpandedNodes → NodeInfo → Type 0
-IsCallInfo w d nodes i = (s : State) → AreAlikeOn w i.read d s → answer_of i ≡ call_info w s nodes
+IsCallInfo w d nodes i = (s : State) → AreAlikeOn w i.read d s → (answer_of i ≡ call_info w s nodes) × TellsAuthor w i.shows_author (call_shows w s author nodes)
 
 -- each result is that of a text that calls the macro at its place
 abbrev pub HasInfos : RenderInput → DryView → BTreeMap ℕ NodeInfo → Type 0

@@ -1,5 +1,6 @@
 -- The laws of rendering, over the definitions of `Tree` and `Rendering`. Each holds for every input,
--- and `proofs/Theorems.antt` proves it. The first two are clauses of `render_pair`.
+-- and `proofs/Theorems.antt` proves it. The first two are clauses of `render_pair`, and the last one
+-- is the clause `by_date` of `sort_key`, for the key that it returns.
 use Rattle.std.specs.Prelude.{◌≡◌, true, false, Option, Some}
 use Rattle.csl_elements.specs.declared.element.Layout.{Layout}
 use Rattle.csl_elements.specs.declared.named.Named.{Named}
@@ -17,11 +18,12 @@ use Rattle.csl_entry.specs.declared.citation.cite.SpecialForm.TheVariants.{Suppr
 use Rattle.csl_entry.specs.Snapshot.{snapshot_of, kept_in}
 use Rattle.csl_context.specs.RenderInput.{RenderInput}
 use Rattle.csl_context.specs.State.{Inherited, State}
-use Rattle.csl_render.specs.CiteContent.{new_cite, named_by, AgreeButForAuthors}
+use Rattle.csl_render.specs.CiteContent.{new_cite, sort_key_text, named_by, AgreeButForAuthors}
 use Rattle.csl_render.specs.Keeps.{Keeps}
 use Rattle.csl_render.specs.Names.{author}
 use Rattle.csl_render.specs.PairOutput.{with_answers}
 use Rattle.csl_render.specs.Rendering.{Renderable, output_in}
+use Rattle.csl_render.specs.SortedDates.{SortsByDate}
 use Rattle.csl_render.specs.Tested.{tested_in_nodes}
 use Rattle.csl_render.specs.Tree.{layout_output}
 
@@ -60,3 +62,10 @@ abbrev pub SuppressedAuthorsAreSilent : Type 0
 SuppressedAuthorsAreSilent = (w : RenderInput) (l : ExpandedLayout) (a b : Answers) → w.instance.special ≡ Some SuppressAuthor → tested_in_nodes l.elements (a_variable author) ≡ false
     → AgreeButForAuthors (named_in_nodes l.elements) a b
     → (inherited : Inherited) (s : State) → layout_output (with_answers a w) l inherited s ≡ layout_output (with_answers b w) l inherited s
+
+-- Sorted by the key is sorted by the date: by a layout of one date and nothing else, the sort keys of
+-- two entries compare by bytes as their dates do in time, none first, if no year suffix follows and
+-- both years are in the range of `HasKeyYear`.
+abbrev pub SortKeysOrderAsDates : Type 0
+SortKeysOrderAsDates = (style : StyleParts) (scope : Scope) (cite : CiteState) (sorting : Sorting) (a : Answers) (layout : Layout)
+    → SortsByDate (sort_key_text style scope cite sorting a layout) style scope cite sorting a layout

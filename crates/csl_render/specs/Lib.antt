@@ -10,4 +10,5 @@ pub mod PairOutput
 pub mod Keeps
 pub mod CiteContent
 pub mod Tested
+pub mod SortedDates
 pub mod Laws

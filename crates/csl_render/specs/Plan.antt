@@ -3,15 +3,15 @@
 -- (`dry`): the suppressed variables and, under two special forms, whether a date was rendered. A
 -- result has the set of the variables that its dry run read. It is the same in each state that
 -- agrees on them and on the date (`AreAlikeOn`). So a variable that names in a substitute suppress
--- ends the plans of the nodes that read it, and leaves those whose set is without it. All results of
--- a dry run stand in one list, in the order of the nodes: each before those for the nodes inside its
--- node. The results for a list of nodes may break off. The nodes after its end have no plan. Only
--- private contracts cite these definitions.
+-- ends the plans of the nodes that read it, and leaves those whose set is without it. In a cite that
+-- suppresses the author a result also tells whether the node shows the author (`TellsAuthor`): names
+-- that do are refused. All results of a dry run stand in one list, in the order of the nodes: each
+-- before those for the nodes inside its node. The results for a list of nodes may break off. The
+-- nodes after its end have no plan. Only private contracts cite these definitions.
 use Rattle.std.specs.Prelude.{◌≡◌, ◌≤◌, ⊤, Bool, true, false, ◌&&◌, List, [], ◌∷◌, length, take, drop, Option, Some, None}
 use Rattle.std.specs.Bool.{MatchBool}
 use Rattle.csl_elements.specs.declared.element.Choose.{Choose, out-Choose}
 use Rattle.csl_elements.specs.declared.element.Names.{Names}
-use Rattle.csl_elements.specs.declared.taxonomy.NameVariable.{NameVariable}
 use Rattle.csl_elements.specs.declared.taxonomy.Variable.{Variable}
 use Rattle.csl_elements.specs.declared.taxonomy.Variable.TheVariants as variable
 use Rattle.csl_elements.specs.declared.variable_set.VariableSet.{VariableSet}
@@ -34,7 +34,8 @@ use Rattle.csl_render.specs.declared.plan.NodeInfo.{NodeInfo}
 use Rattle.csl_render.specs.declared.plan.NodePlan.{NodePlan}
 use Rattle.csl_render.specs.declared.plan.PlanItem.{PlanItem}
 use Rattle.csl_render.specs.Expanded.{expanded, expanded_nodes, expanded_substitutes}
-use Rattle.csl_render.specs.Tree.{info, nodes_info, substitute_info}
+use Rattle.csl_render.specs.Names.{author}
+use Rattle.csl_render.specs.Tree.{info, nodes_info, substitute_info, shows, any_shows, substitute_shows}
 
 -- ---- what dry runs read of a state
 
@@ -75,7 +76,7 @@ HasTested read ts = Each (Has read) (all_if ts.is_numeric) × Each (λ v. Has re
 abbrev pub HasAllTested : VariableSet → Choose → Type 0
 HasAllTested read c = HasTested read (view_branch (out-Choose c).if_).tests × Each (λ b. HasTested read (view_branch b).tests) (out-Choose c).else_if.items
 
--- the special form for which names answer whether they show the author
+-- the special form that refuses names that show the author
 abbrev pub asks_for_author : Option SpecialForm → Bool
 asks_for_author None = false
 asks_for_author (Some (VarOnly v)) = false
@@ -83,10 +84,9 @@ asks_for_author (Some OnlyFirstDate) = false
 asks_for_author (Some OnlyYearSuffix) = false
 asks_for_author (Some SuppressAuthor) = true
 
--- The set has what a dry run of names reads, but for the nodes in their substitute: their variables
--- or, if it asks for the author, all.
-abbrev pub HasReadByNames : Option SpecialForm → List NameVariable → VariableSet → Type 0
-HasReadByNames special vs read = Each (λ v. Has read (variable.Name v)) vs × (asks_for_author special ≡ true → (v : Variable) → Has read v)
+-- a dry run tells whether nodes show the author, if the special form asks
+abbrev pub TellsAuthor : RenderInput → Bool → Bool → Type 0
+TellsAuthor w told shown = asks_for_author w.instance.special ≡ true → told ≡ shown
 
 -- ---- the results for a node and for the nodes inside it
 
@@ -118,7 +118,7 @@ module _ (w : RenderInput) (d : DryView) where
     AreItems (expanded_node f fs) [] = ⊤
     AreItems (expanded_node f fs) (i ∷ is) =
         (i.inside ≤ length is)
-        × ((s : State) → AreAlikeOn w i.info.read d s → (answer_of i.info ≡ info w s f) × AreInside s f (take i.inside is))
+        × ((s : State) → AreAlikeOn w i.info.read d s → (answer_of i.info ≡ info w s f) × TellsAuthor w i.info.shows_author (shows w s author f) × AreInside s f (take i.inside is))
         × AreItems fs (drop i.inside is)
 
     pub AreTaken : State → ExpandedBranches → List PlanItem → Type 0
@@ -137,15 +137,15 @@ module _ (w : RenderInput) (d : DryView) where
 
   -- the result for a node, and the items for the nodes inside it
   abbrev pub IsInfo : ExpandedNode → NodeInfo → List PlanItem → Type 0
-  IsInfo f i is = (s : State) → AreAlikeOn w i.read d s → (answer_of i ≡ info w s f) × AreInside s f is
+  IsInfo f i is = (s : State) → AreAlikeOn w i.read d s → (answer_of i ≡ info w s f) × TellsAuthor w i.shows_author (shows w s author f) × AreInside s f is
 
   -- the result for nodes together, and the items for each
   abbrev pub IsInfoOfNodes : ExpandedNodes → NodeInfo → List PlanItem → Type 0
-  IsInfoOfNodes fs i is = ((s : State) → AreAlikeOn w i.read d s → answer_of i ≡ nodes_info w s fs) × AreItems fs is
+  IsInfoOfNodes fs i is = ((s : State) → AreAlikeOn w i.read d s → (answer_of i ≡ nodes_info w s fs) × TellsAuthor w i.shows_author (any_shows w s author fs)) × AreItems fs is
 
   -- the result for substitutes, and the items for the children of the first
   abbrev pub IsInfoOfSubstitutes : ExpandedSubstitutes → NodeInfo → List PlanItem → Type 0
-  IsInfoOfSubstitutes ss i is = ((s : State) → AreAlikeOn w i.read d s → answer_of i ≡ substitute_info w s ss) × AreOfSubstitutes ss is
+  IsInfoOfSubstitutes ss i is = ((s : State) → AreAlikeOn w i.read d s → (answer_of i ≡ substitute_info w s ss) × TellsAuthor w i.shows_author (substitute_shows w s author ss)) × AreOfSubstitutes ss is
 
 -- ---- plans
 
@@ -155,7 +155,7 @@ ArePlans w fs p = AreItems w (dry_view p.at.now) fs p.items.now
 
 -- a plan of a node that holds for a state
 abbrev pub IsPlan : RenderInput → State → ExpandedNode → NodePlan → Type 0
-IsPlan w s f p = (info_view p.answer ≡ info w s f) × AreInside w (dry_view p.inside.at.now) s f p.inside.items.now
+IsPlan w s f p = (info_view p.answer ≡ info w s f) × TellsAuthor w p.shows_author (shows w s author f) × AreInside w (dry_view p.inside.at.now) s f p.inside.items.now
 
 -- a plan of a node with plans of the nodes inside: of these, or of the first of these substitutes
 abbrev pub HasPlans : RenderInput → ExpandedNodes → NodePlan → Type 0
@@ -175,10 +175,14 @@ module _ {T : Type 0} (answers : T → Answers) (now : ContextView T) where
   abbrev pub IsDryRun : ExpandedNode → AskedNode → Type 0
   IsDryRun f r =
       (info_view r.answer ≡ info (render_input answers now) now.state f)
+      × TellsAuthor (render_input answers now) r.shows_author (shows (render_input answers now) now.state author f)
       × AreInside (render_input answers now) (dry_view r.at) now.state f r.inside.items
 
   abbrev pub IsDryRunOf : Node → AskedNode → Type 0
   IsDryRunOf n = IsDryRun (expanded now.style n)
+
+  abbrev pub TellsAuthorOf : Node → Bool → Type 0
+  TellsAuthorOf n told = TellsAuthor (render_input answers now) told (shows (render_input answers now) now.state author (expanded now.style n))
 
   abbrev pub IsPlanOf : Node → NodePlan → Type 0
   IsPlanOf n p = IsPlan (render_input answers now) now.state (expanded now.style n) p

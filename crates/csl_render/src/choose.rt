@@ -158,7 +158,8 @@ impl Node for Choose {
             Some(nodes) => {
                 let info = nodes_info(nodes, run)?;
                 let answer = without_group_flag(info.answer);
-                Ok(NodeInfo::new(answer, tested.union(info.read)))
+                let read = tested.union(info.read);
+                Ok(NodeInfo::new(answer, read).with_author(info.shows_author))
             }
             None => Ok(NodeInfo::new(no_info(), tested)),
         }

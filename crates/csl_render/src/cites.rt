@@ -4,7 +4,7 @@ ghost use Rattle.std.specs.Prelude.{◌≡◌, true, false, Some, IfOk, IfErr, I
 ghost use Rattle.std.specs.Bool.{Decides};
 ghost use Rattle.csl_style.specs.declared.style.settings.Scope.TheVariants as scopes;
 ghost use Rattle.csl_style.specs.Named.{named_in_nodes};
-ghost use Rattle.csl_elements.specs.NamedSet.{a_variable};
+ghost use Rattle.csl_elements.specs.NamedSet.{a_variable, named_set};
 ghost use Rattle.csl_elements.specs.Node.{expand_layout};
 ghost use Rattle.csl_elements.specs.View.{view_layout};
 ghost use Rattle.csl_style.specs.Expanded.{macro_env};
@@ -13,16 +13,17 @@ ghost use Rattle.csl_entry.specs.Answers.{Answers};
 ghost use Rattle.csl_entry.specs.Cite.{cite_state};
 ghost use Rattle.csl_entry.specs.declared.citation.cite.SpecialForm.TheVariants as special_forms;
 ghost use Rattle.csl_context.specs.LeftState.{left_state_view};
-ghost use Rattle.csl_render.specs.CiteContent.{new_cite, sort_key_text, special_cite, whole_cite, named_by, HoldsForAlike, AgreeButForAuthors};
+ghost use Rattle.csl_render.specs.CiteContent.{new_cite, sort_key_text, special_cite, whole_cite, named_by, AgreeButForAuthors, Covers, HoldsForAlike};
 ghost use Rattle.csl_render.specs.Names.{author};
 ghost use Rattle.csl_render.specs.PairOutput.{cite_input, layout_output_from, output_of, Prints, PrintsSame};
+ghost use Rattle.csl_render.specs.SortedDates.{SortsByDate};
 ghost use Rattle.csl_render.specs.Tested.{tested_by};
 
-use crate::pair::{Pair, render_pair};
+use crate::pair::{Pair, are_alike_on, render_both, render_pair};
 use crate::render::RenderCsl;
 use csl_context::{Context, LeftState, RenderError, Rendered};
 use csl_entry::{CiteProperties, EntryLike, InstanceContext, Sorting, SpecialForm};
-use csl_style::{Layout, Scope, Style};
+use csl_style::{Layout, Named, Scope, Style};
 use csl_tree::BufWriteFormat;
 use std::alloc::Global;
 
@@ -195,13 +196,17 @@ pub fn sort_key<T: EntryLike>(
 ) -> Result<String, RenderError>
     ensures ok { IfOk result (λ key. string_bytes key ≡ sort_key_text style.now scope
         (cite_state cite_props.now) sorting (T.answers entry.now) layout.now) }
+    // By a layout of one date alone, it compares with other keys as the dates do in time.
+    ensures by_date { IfOk result (λ key. SortsByDate (string_bytes key) style.now scope
+        (cite_state cite_props.now) sorting (T.answers entry.now) layout.now) }
     ensures err { IfErr result (λ e. e ≡ RenderError.Memory) }
 {
     let sorting = Some(sorting);
     let rendered = render_new(
         alloc, style, layout, scope, entry, cite_props, sorting, None,
     )?;
-    Ok(rendered.content.to_text(alloc, BufWriteFormat::Plain)?)
+    let key = rendered.content.to_text(alloc, BufWriteFormat::Plain)?;
+    Ok(key)
 }
 
 /// Renders a cite of each of two entries, of any types, as [`cite`] does. Also returns whether the
@@ -238,5 +243,52 @@ pub fn cite_pair<T: EntryLike, U: EntryLike>(
     let pair = render_pair(
         alloc, style, layout, scope, cite_props, None, None, &start, left, right,
     )?;
+    Ok(pair)
+}
+
+/// Renders a cite of each of two entries, as [`cite_pair`] does, and compares their answers on a set
+/// of variables and kinds: on what `csl_style::named_by` returns for the citation layout, so that a
+/// caller with many pairs asks for it once. By a set that has everything that the layout names,
+/// cites of alike entries are equal in content, state and HTML.
+///
+/// # Errors
+/// [`RenderError::Memory`]: out of memory, here or in an entry.
+pub fn cite_pair_with<T: EntryLike, U: EntryLike>(
+    alloc: Global,
+    style: &Style,
+    cite_props: &CiteProperties<'_>,
+    named: &Named,
+    left: &T,
+    right: &U,
+) -> Result<Pair, RenderError>
+    ensures left { IfOk result (λ p. Prints (whole_cite style.now scopes.Citation
+        (cite_state cite_props.now) (T.answers left.now) style.now.citation)
+        p.left (string_bytes p.left_html)) }
+    ensures right { IfOk result (λ p. Prints (whole_cite style.now scopes.Citation
+        (cite_state cite_props.now) (U.answers right.now) style.now.citation)
+        p.right (string_bytes p.right_html)) }
+    ensures alike { IfOk result (λ p. Decides p.alike
+        (SameNamedAnswers (named_set named.now) (T.answers left.now) (U.answers right.now))) }
+    ensures same { Covers (named_set named.now) (named_by style.now style.now.citation)
+        → IfOk result (λ p. p.alike ≡ true
+        → PrintsSame p.left (string_bytes p.left_html) p.right (string_bytes p.right_html)) }
+    ensures err { IfErr result (λ e. e ≡ RenderError.Memory) }
+{
+    let alike = are_alike_on(alloc, named, left, right)?;
+    let one = InstanceContext {
+        entry: left,
+        cite_props,
+        sorting: None,
+        kind: None,
+    };
+    let other = InstanceContext {
+        entry: right,
+        cite_props,
+        sorting: None,
+        kind: None,
+    };
+    let (layout, scope) = (style.citation(), Scope::Citation);
+    let start = LeftState::new(alloc);
+    let pair = render_both(alloc, style, layout, scope, &start, one, other, alike)?;
     Ok(pair)
 }

@@ -19,7 +19,7 @@ use crate::query::Query;
 use crate::render::RenderCsl;
 use csl_context::{Context, RenderError};
 use csl_entry::EntryLike;
-use csl_nodes::{UsageInfo, add_child_info, no_info};
+use csl_nodes::{UsageInfo, no_info};
 use csl_style::{LayoutRenderingElement, RenderingElement, Variable, VariableSet};
 use lit_model::Memory;
 
@@ -80,16 +80,14 @@ pub(crate) fn nodes_info<'c, 's, T: EntryLike>(
         (dry_now run.old.now) (expanded_nodes run.old.now.style (view_nodes nodes.now)) i)
         run.old run.new) }
 {
-    let mut sum = no_info();
-    let mut read = VariableSet::new();
+    let mut sum = NodeInfo::new(no_info(), VariableSet::new());
     for node in nodes {
         let place = run.open_node()?;
         let info = node.node_info(run)?;
         run.close_node(place, info);
-        sum = add_child_info(sum, info.answer, is_group(node));
-        read = read.union(info.read);
+        sum = sum.with_child(info, is_group(node));
     }
-    Ok(NodeInfo::new(sum, read))
+    Ok(sum)
 }
 
 impl Node for LayoutRenderingElement {
@@ -175,7 +173,7 @@ fn ask_node<'s, T: EntryLike>(
     let at = DryState::of(ctx);
     let mut run = DryRun::new(ctx);
     let info = node.node_info(&mut run)?;
-    Ok(AskedNode::new(at, info.answer, run.into_items()))
+    Ok(AskedNode::new(at, info, run.into_items()))
 }
 
 /// Renders nodes one after another, each by its plan if it has one. `plan` is that of the node

@@ -29,7 +29,7 @@ impl Node for Group {
         run: &mut DryRun<'c, 's, T>,
     ) -> Result<NodeInfo, Memory> {
         let info = nodes_info(&self.children, run)?;
-        Ok(NodeInfo::new(info_of_group(info.answer), info.read))
+        Ok(info.with_answer(info_of_group(info.answer)))
     }
 
     #[cycle(shows)]
@@ -61,7 +61,7 @@ fn ask_group<'s, T: EntryLike>(ctx: &Context<'s, T>, group: &'s Group) -> Result
     let at = DryState::of(ctx);
     let mut run = DryRun::new(ctx);
     let info = group.node_info(&mut run)?;
-    Ok(AskedNode::new(at, info.answer, run.into_items()))
+    Ok(AskedNode::new(at, info, run.into_items()))
 }
 
 /// Renders a group by a dry run.
@@ -99,9 +99,9 @@ fn render_group_by_plan<'p, 's, T: EntryLike>(
     };
     let element = ctx.push_elem()?;
     let before = ctx.open_body(around)?;
-    ctx.push_delimiter(group.delimiter.as_deref())?;
+    let outer_delimiter = ctx.enter_delimiter(group.delimiter.as_deref())?;
     render_with_delimiter(ctx, &group.children, Some(plan))?;
-    ctx.pop_delimiter();
+    ctx.leave_delimiter(outer_delimiter);
     ctx.close_body(around, before)?;
     close_group(ctx, element, usage.should_render_group(), group.display)?;
     Ok(())

@@ -36,11 +36,11 @@ impl RenderCsl for Layout {
     }
 
     fn render<'s, T: EntryLike>(&'s self, ctx: &mut Context<'s, T>) -> Result<(), RenderError> {
-        ctx.push_format(self.formatting)?;
-        ctx.push_delimiter(self.delimiter.as_deref())?;
+        let outer_format = ctx.enter_format(self.formatting)?;
+        let outer_delimiter = ctx.enter_delimiter(self.delimiter.as_deref())?;
         render_all(ctx, &self.elements, None)?;
-        ctx.pop_delimiter();
-        ctx.pop_format();
+        ctx.leave_delimiter(outer_delimiter);
+        ctx.leave_format(outer_format);
         Ok(())
     }
 }

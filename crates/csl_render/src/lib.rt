@@ -22,7 +22,7 @@ mod text;
 mod variable_set;
 
 pub use choose::choose_children;
-pub use cites::{bibliography_entry, cite, cite_in, cite_pair, sort_key};
+pub use cites::{bibliography_entry, cite, cite_in, cite_pair, cite_pair_with, sort_key};
 pub use csl_nodes::{BranchConditionIter, BranchConditionPos, UsageInfo, full_sort_key};
 pub use pair::{Pair, render_pair};
 pub use render::RenderCsl;

@@ -1,6 +1,6 @@
 //! Names (CSL 1.0.2, Names; Substitute): the dry run, shown variables and content of a names node.
 
-ghost use Rattle.std.specs.Prelude.{◌≡◌, Bool, ◌<◌, ◌&&◌, ◌||◌, List, [], false, map, IfOk, IfSome, option_map};
+ghost use Rattle.std.specs.Prelude.{◌≡◌, Bool, ◌<◌, ◌&&◌, ◌||◌, List, [], false, true, map, IfOk, IfSome, option_map, if◌then◌else◌};
 ghost use Rattle.csl_elements.specs.declared.taxonomy.Variable.{Variable};
 ghost use Rattle.csl_elements.specs.declared.taxonomy.NameVariable.{NameVariable};
 ghost use Rattle.csl_elements.specs.Names.{NamesNode, shorthand_expansion};
@@ -18,15 +18,15 @@ ghost use Rattle.csl_render.specs.DryRun.{Adds};
 ghost use Rattle.csl_render.specs.Expanded.{expanded, expanded_nodes, expanded_taken, expanded_substitutes};
 ghost use Rattle.csl_render.specs.Names.{Macros, author, has_variable, is_of_names, is_names_of, any_is_names_of, substitute_has_names_of, expanded_substitutes_of, standing_in, refuses_alone, is_refused, names_show, names_or_substitute_info, in_substitute, suppressing_from, boxed_substitute};
 ghost use Rattle.csl_nodes.specs.Text.{Appends, render_output};
-ghost use Rattle.csl_nodes.specs.Usage.{info_view};
-ghost use Rattle.csl_render.specs.Plan.{asks_for_author, dry_now, DryView, HasReadByNames, AreOfTaken, AreOfSubstitutes, IsInfoOfSubstitutes, IsPlanOf, HasPlansOf, HasPlansWithin};
+ghost use Rattle.csl_nodes.specs.Usage.{info_view, no_info};
+ghost use Rattle.csl_render.specs.Plan.{asks_for_author, dry_now, DryView, AreOfTaken, AreOfSubstitutes, IsInfoOfSubstitutes, IsDryRunOf, TellsAuthorOf, IsPlanOf, HasPlansOf, HasPlansWithin};
 ghost use Rattle.csl_render.specs.Rendering.{with_whole_output};
 ghost use Rattle.csl_render.specs.Tree.{node_output, substitute_shows, substitute_info, substitute_output, output_until_text, first_substitute_output, choice_info, choice_shows, refused_in, names_output, shorthand_output};
 
 use crate::dry_run::DryRun;
 use crate::element::{any_shows, nodes_info};
 use crate::node::Node;
-use crate::plan::{NodeInfo, NodePlan, inside_plan, next_plan};
+use crate::plan::{AskedNode, DryState, NodeInfo, NodePlan, inside_plan, next_plan};
 use crate::query::Query;
 use crate::variable_set::with_names;
 use csl_context::{Context, RenderError};
@@ -111,6 +111,17 @@ fn names_or_substitute_info(is_void: bool, inside: (bool, UsageInfo)) -> (bool, 
     (!is_void || inside.0, usage)
 }
 
+/// The dry run of void names, from whether they are refused and the dry run of their substitute.
+fn void_info(refused: bool, inside: (bool, UsageInfo)) -> (bool, UsageInfo)
+    ensures { info_view result ≡ (if refused then no_info
+        else names_or_substitute_info true (info_view inside)) }
+{
+    if refused {
+        return no_info();
+    }
+    names_or_substitute_info(true, inside)
+}
+
 /// The children of the first substitute.
 fn first_nodes(names: &Names) -> Option<&[LayoutRenderingElement]>
     ensures { option_map (λ ns. view_nodes ns.now) result
@@ -134,9 +145,9 @@ fn substitute_nodes<'n, 's, T: EntryLike>(
     ensures info { (s : State) → substitute_info (render_input T.answers ctx.now) s
         (expanded_substitutes ctx.now.style names.now)
         ≡ choice_info (render_input T.answers ctx.now) s (expanded_taken ctx.now.style result) }
-    ensures shown { (v : Variable) → substitute_shows (render_input T.answers ctx.now)
-        ctx.now.state v (expanded_substitutes ctx.now.style names.now)
-        ≡ choice_shows (render_input T.answers ctx.now) ctx.now.state v
+    ensures shown { (s : State) → (v : Variable) → substitute_shows
+        (render_input T.answers ctx.now) s v (expanded_substitutes ctx.now.style names.now)
+        ≡ choice_shows (render_input T.answers ctx.now) s v
         (expanded_taken ctx.now.style result) }
     ensures output { (inh : Inherited) → (s : State) → substitute_output
         (render_input T.answers ctx.now) (expanded_substitutes ctx.now.style names.now) inh s
@@ -246,13 +257,13 @@ fn substitute_info<'c, 's, T: EntryLike>(
     match substitute_nodes(run.context(), names) {
         Some(nodes) => {
             let info = nodes_info(nodes, run)?;
-            Ok(NodeInfo::new(without_group_flag(info.answer), info.read))
+            Ok(info.with_answer(without_group_flag(info.answer)))
         }
         None => Ok(NodeInfo::new(no_info(), VariableSet::new())),
     }
 }
 
-/// Whether the special form asks names if they show the author.
+/// Whether the special form refuses names that show the author.
 fn asks_for_author(special: Option<SpecialForm>) -> bool
     ensures { result ≡ asks_for_author special }
 {
@@ -265,15 +276,36 @@ fn asks_for_author(special: Option<SpecialForm>) -> bool
     }
 }
 
-/// The variables that a dry run of names reads, but for those of the nodes in their substitute.
-/// Whether names show the author may depend on any.
-fn read_by_names<'s, T: EntryLike>(ctx: &Context<'s, T>, names: &Names) -> VariableSet
-    ensures { HasReadByNames ctx.now.special (names_node names.now).variables result }
+/// Whether names show the author, from whether their substitute does, if the special form asks.
+/// `is_empty` is whether they have no persons.
+fn shows_author<T>(
+    ctx: &Context<'_, T>,
+    names: &Names,
+    is_empty: bool,
+    substitute_shows: bool,
+) -> bool
+    ensures { asks_for_author ctx.now.special ≡ true
+        → result ≡ names_show author (names_node names.now) is_empty substitute_shows }
 {
-    if asks_for_author(ctx.special_form()) {
-        return VariableSet::all();
+    if !asks_for_author(ctx.special_form()) {
+        return false;
     }
-    with_names(VariableSet::new(), &names.variable)
+    has_variable(NameVariable::Author, names.parts().variables) || is_empty && substitute_shows
+}
+
+/// Whether the special form of the cite refuses the names. `is_empty` is whether they have no
+/// persons, and `shows_author` whether they show the author.
+fn refuses<T>(ctx: &Context<'_, T>, names: &Names, is_empty: bool, shows_author: bool) -> bool
+    ensures { result ≡ is_refused ctx.now.special (names_node names.now) is_empty
+        (expanded_substitutes ctx.now.style names.now) shows_author }
+{
+    match ctx.special_form() {
+        None => false,
+        Some(SpecialForm::VarOnly(only)) => refuses_alone(only, names, is_empty),
+        Some(SpecialForm::OnlyFirstDate) => true,
+        Some(SpecialForm::OnlyYearSuffix) => true,
+        Some(SpecialForm::SuppressAuthor) => shows_author,
+    }
 }
 
 impl Node for Names {
@@ -286,18 +318,22 @@ impl Node for Names {
         run: &mut DryRun<'c, 's, T>,
     ) -> Result<NodeInfo, Memory> {
         let ctx = run.context();
-        let read = read_by_names(ctx, self);
+        let read = with_names(VariableSet::new(), &self.variable);
         let summary = summarize_names(ctx, self)?;
-        if refuses(ctx, self, summary.is_empty)? {
-            return Ok(NodeInfo::new(no_info(), read));
+        let alone = shows_author(ctx, self, summary.is_empty, false);
+        if refuses(ctx, self, summary.is_empty, alone) {
+            return Ok(NodeInfo::new(no_info(), read).with_author(alone));
         }
         if !summary.is_void {
             let answer = names_or_substitute_info(false, no_info());
-            return Ok(NodeInfo::new(answer, read));
+            return Ok(NodeInfo::new(answer, read).with_author(alone));
         }
         let tried = substitute_info(self, run)?;
-        let answer = names_or_substitute_info(true, tried.answer);
-        Ok(NodeInfo::new(answer, read.union(tried.read)))
+        let shown = shows_author(ctx, self, summary.is_empty, tried.shows_author);
+        let refused = refuses(ctx, self, summary.is_empty, shown);
+        let answer = void_info(refused, tried.answer);
+        let read = read.union(tried.read);
+        Ok(NodeInfo::new(answer, read).with_author(shown))
     }
 
     #[cycle(shows)]
@@ -316,9 +352,10 @@ impl Node for Names {
         ctx: &mut Context<'s, T>,
         plan: Option<&NodePlan<'p>>,
     ) -> Result<(), RenderError> {
-        let lists = resolved_lists(ctx, &self.variable)?;
-        render_lists(ctx, self, &lists, plan)?;
-        Ok(())
+        match plan {
+            Some(plan) => render_names_by_plan(ctx, self, plan),
+            None => render_unplanned_names(ctx, self),
+        }
     }
 }
 
@@ -347,60 +384,107 @@ fn names_or_substitute_show<'c, 's, T: EntryLike>(
     }
 }
 
-/// Whether the special form of the cite refuses the names. `is_empty` is whether they have no
-/// persons.
-fn refuses<'s, T: EntryLike>(
-    ctx: &Context<'s, T>,
-    names: &'s Names,
-    is_empty: bool,
-) -> Result<bool, Memory>
-    ensures { Gives result (refused_in (render_input T.answers ctx.now) (names_node names.now)
-        (expanded_substitutes ctx.now.style names.now) is_empty ctx.now.state) }
+/// The dry run of names, and the state that it read.
+#[inline(never)]
+fn ask_names<'s, T: EntryLike>(ctx: &Context<'s, T>, names: &'s Names) -> Result<AskedNode, Memory>
+    ensures { IfOk result (IsDryRunOf T.answers ctx.now (view_names names.now)) }
 {
-    match ctx.special_form() {
-        None => Ok(false),
-        Some(SpecialForm::VarOnly(only)) => Ok(refuses_alone(only, names, is_empty)),
-        Some(SpecialForm::OnlyFirstDate) => Ok(true),
-        Some(SpecialForm::OnlyYearSuffix) => Ok(true),
-        Some(SpecialForm::SuppressAuthor) => shows_author(ctx, names, is_empty),
+    let at = DryState::of(ctx);
+    let mut run = DryRun::new(ctx);
+    let info = names.node_info(&mut run)?;
+    Ok(AskedNode::new(at, info, run.into_items()))
+}
+
+/// Renders names without a plan: by a dry run, if the special form asks whether they show the
+/// author.
+#[cycle(render)]
+fn render_unplanned_names<'s, T: EntryLike>(
+    ctx: &mut Context<'s, T>,
+    names: &'s Names,
+) -> Result<(), RenderError>
+    ensures { Appends T.answers (λ w. node_output w (expanded w.style (view_names names.now)))
+        result ctx.old ctx.new }
+{
+    if asks_for_author(ctx.special_form()) {
+        return render_asked_names(ctx, names);
     }
+    render_names(ctx, names, None, false)
 }
 
-/// Whether names show the authors. `is_empty` is whether they have no persons.
-fn shows_author<'s, T: EntryLike>(
-    ctx: &Context<'s, T>,
+/// Renders names by a dry run.
+#[cycle(render)]
+#[inline(never)]
+fn render_asked_names<'s, T: EntryLike>(
+    ctx: &mut Context<'s, T>,
     names: &'s Names,
-    is_empty: bool,
-) -> Result<bool, Memory>
-    ensures { Gives result (names_show author (names_node names.now) is_empty
-        (substitute_shows (render_input T.answers ctx.now) ctx.now.state author
-        (expanded_substitutes ctx.now.style names.now))) }
+) -> Result<(), RenderError>
+    ensures { Appends T.answers (λ w. node_output w (expanded w.style (view_names names.now)))
+        result ctx.old ctx.new }
 {
-    let mut query = Query::new(ctx, Variable::Name(NameVariable::Author));
-    names_or_substitute_show(names, &mut query, is_empty)
+    let asked = ask_names(ctx, names);
+    let asked = ctx.attempt(asked)?;
+    render_names_by_plan(ctx, names, &asked.plan())
 }
 
-/// Appends the content of names with these lists. The plan is from before the lookups for them.
+/// Renders names by their plan.
+#[cycle(render)]
+fn render_names_by_plan<'p, 's, T: EntryLike>(
+    ctx: &mut Context<'s, T>,
+    names: &'s Names,
+    plan: &NodePlan<'p>,
+) -> Result<(), RenderError>
+    requires { IsPlanOf T.answers ctx.old (view_names names.now) plan.now }
+    ensures { Appends T.answers (λ w. node_output w (expanded w.style (view_names names.now)))
+        result ctx.old ctx.new }
+{
+    render_names(ctx, names, Some(plan), plan.shows_author())
+}
+
+/// Renders names. Before the lookups for their lists, `shows_author` is whether they show the
+/// author, if the special form asks: the lookups do not change it.
+#[cycle(render)]
+fn render_names<'p, 's, T: EntryLike>(
+    ctx: &mut Context<'s, T>,
+    names: &'s Names,
+    plan: Option<&NodePlan<'p>>,
+    shows_author: bool,
+) -> Result<(), RenderError>
+    requires planned { IfSome plan (λ p. HasPlansWithin T.answers ctx.old names.now p.now) }
+    requires told { TellsAuthorOf T.answers ctx.old (view_names names.now) shows_author }
+    ensures { Appends T.answers (λ w. node_output w (expanded w.style (view_names names.now)))
+        result ctx.old ctx.new }
+{
+    let lists = resolved_lists(ctx, &names.variable)?;
+    let is_empty = all_empty(&lists);
+    let refused = refuses(ctx, names, is_empty, shows_author);
+    render_lists(ctx, names, &lists, plan, refused)?;
+    Ok(())
+}
+
+/// Appends the content of names with these lists, or nothing if they are refused. The plan is from
+/// before the lookups for them.
 #[cycle(render)]
 fn render_lists<'p, 's, T: EntryLike>(
     ctx: &mut Context<'s, T>,
     names: &'s Names,
     lists: &[PersonList<'s>],
     plan: Option<&NodePlan<'p>>,
+    refused: bool,
 ) -> Result<(), RenderError>
-    requires { IfSome plan (λ p. HasPlansWithin T.answers ctx.old names.now p.now) }
+    requires planned { IfSome plan (λ p. HasPlansWithin T.answers ctx.old names.now p.now) }
+    requires told { refused ≡ refused_in (render_input T.answers ctx.old)
+        (names_node names.now) (expanded_substitutes ctx.old.style names.now)
+        (all_empty (map list_of lists.now)) ctx.old.state }
     ensures { Appends T.answers (λ w inherited s. names_output w (names_node names.now)
         (expanded_substitutes w.style names.now) inherited
         (substitute_output w (expanded_substitutes w.style names.now)
         (in_substitute (names_node names.now) inherited) (suppressing_from s))
         (map list_of lists.now) s) result ctx.old ctx.new }
 {
-    let is_empty = all_empty(lists);
-    let refused = refuses(ctx, names, is_empty);
-    if ctx.attempt(refused)? {
+    if refused {
         return push_nothing(ctx);
     }
-    if is_empty {
+    if all_empty(lists) {
         return render_substitute(ctx, names, lists, plan);
     }
     write_names(ctx, names.parts(), lists)

@@ -3,6 +3,7 @@
 ghost use Rattle.std.specs.Prelude.{◌≡◌, true, IfOk, IfErr, string_bytes};
 ghost use Rattle.std.specs.Bool.{Decides};
 ghost use Rattle.csl_style.specs.Named.{named_in_nodes};
+ghost use Rattle.csl_elements.specs.NamedSet.{named_set};
 ghost use Rattle.csl_elements.specs.Node.{expand_layout};
 ghost use Rattle.csl_elements.specs.View.{view_layout};
 ghost use Rattle.csl_style.specs.Expanded.{macro_env};
@@ -15,7 +16,7 @@ ghost use Rattle.csl_render.specs.PairOutput.{cite_input, layout_output_from, Pr
 use crate::cites::render_from;
 use csl_context::{LeftState, RenderError, Rendered};
 use csl_entry::{CiteProperties, EntryLike, InstanceContext, Sorting, SpecialForm, same_answers};
-use csl_style::{Layout, Scope, Style, named_by};
+use csl_style::{Layout, Named, Scope, Style, named_by};
 use csl_tree::BufWriteFormat;
 use std::alloc::Global;
 
@@ -55,6 +56,56 @@ fn render_with_html<'s, T: EntryLike>(
     Ok((rendered, html))
 }
 
+/// Renders two cites by the layout, from one state, and writes their HTML. `alike` is handed on.
+pub(crate) fn render_both<'s, T: EntryLike, U: EntryLike>(
+    alloc: Global,
+    style: &'s Style,
+    layout: &'s Layout,
+    scope: Scope,
+    start: &LeftState,
+    one: InstanceContext<'s, T>,
+    other: InstanceContext<'s, U>,
+    alike: bool,
+) -> Result<Pair, RenderError>
+    ensures left { IfOk result (λ p. Prints (layout_output_from (left_state_view start.now)
+        (cite_input style.now scope (cite_state one.entry.cite_props.now) one.entry.sorting
+        one.entry.kind (T.answers one.entry.entry.now)) layout.now)
+        p.left (string_bytes p.left_html)) }
+    ensures right { IfOk result (λ p. Prints (layout_output_from (left_state_view start.now)
+        (cite_input style.now scope (cite_state other.entry.cite_props.now) other.entry.sorting
+        other.entry.kind (U.answers other.entry.entry.now)) layout.now)
+        p.right (string_bytes p.right_html)) }
+    ensures alike { IfOk result (λ p. p.alike ≡ alike) }
+    ensures err { IfErr result (λ e. e ≡ RenderError.Memory) }
+{
+    let (left, left_html) = render_with_html(alloc, style, layout, one, scope, start)?;
+    let (right, right_html) = render_with_html(alloc, style, layout, other, scope, start)?;
+    Ok(Pair {
+        left,
+        right,
+        left_html,
+        right_html,
+        alike,
+    })
+}
+
+/// Whether both entries answer alike on a set of variables and kinds.
+pub(crate) fn are_alike_on<T: EntryLike, U: EntryLike>(
+    alloc: Global,
+    named: &Named,
+    left: &T,
+    right: &U,
+) -> Result<bool, RenderError>
+    ensures ok { IfOk result (λ alike. Decides alike
+        (SameNamedAnswers (named_set named.now) (T.answers left.now) (U.answers right.now))) }
+    ensures err { IfErr result (λ e. e ≡ RenderError.Memory) }
+{
+    match same_answers(alloc, left, right, named) {
+        Ok(alike) => Ok(alike),
+        Err(_) => Err(RenderError::Memory),
+    }
+}
+
 /// Whether both entries answer alike on all that the layout and the macros it reaches name.
 fn are_alike<T: EntryLike, U: EntryLike>(
     alloc: Global,
@@ -71,10 +122,7 @@ fn are_alike<T: EntryLike, U: EntryLike>(
     let Ok(named) = named_by(alloc, style, layout) else {
         return Err(RenderError::Memory);
     };
-    match same_answers(alloc, left, right, &named) {
-        Ok(alike) => Ok(alike),
-        Err(_) => Err(RenderError::Memory),
-    }
+    are_alike_on(alloc, &named, left, right)
 }
 
 /// Renders two entries, of any types, by the layout, in the same cite and from the same state. Also
@@ -128,15 +176,6 @@ pub fn render_pair<'s, T: EntryLike, U: EntryLike>(
         sorting,
         kind,
     };
-    let first = render_with_html(alloc, style, layout, one, scope, start)?;
-    let second = render_with_html(alloc, style, layout, other, scope, start)?;
-    let (left, left_html) = first;
-    let (right, right_html) = second;
-    Ok(Pair {
-        left,
-        right,
-        left_html,
-        right_html,
-        alike,
-    })
+    let pair = render_both(alloc, style, layout, scope, start, one, other, alike)?;
+    Ok(pair)
 }

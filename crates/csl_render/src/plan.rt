@@ -1,15 +1,17 @@
 //! Plans. A plan is the result of a dry run of a node and of the nodes inside it. By its plan the
 //! node is rendered without another dry run (CSL 1.0.2, Group).
 
-ghost use Rattle.std.specs.Prelude.{◌≡◌, ◌↔◌, IfSome, IsTrue, option_map};
+ghost use Rattle.std.specs.Prelude.{◌≡◌, ◌↔◌, ◌||◌, false, IfSome, IsTrue, option_map};
+ghost use Rattle.csl_elements.specs.declared.taxonomy.Variable.{Variable};
 ghost use Rattle.csl_elements.specs.Node.{ExpandedNode, ExpandedNodes, expanded_node};
+ghost use Rattle.csl_elements.specs.VariableSet.{has};
 ghost use Rattle.csl_context.specs.ContextView.{render_input};
-ghost use Rattle.csl_nodes.specs.Usage.{info_view, usage_flags_of};
+ghost use Rattle.csl_nodes.specs.Usage.{info_view, info_union, as_child_info, usage_flags_of};
 ghost use Rattle.csl_render.specs.Plan.{asks_for_dates, dry_now, dry_view, AreAlikeOn, answer_of, IsPlan, ArePlans};
 
 use csl_context::Context;
 use csl_entry::{EntryLike, SpecialForm};
-use csl_nodes::UsageInfo;
+use csl_nodes::{UsageInfo, add_child_info};
 use csl_style::VariableSet;
 
 /// The result of a dry run of a node.
@@ -17,17 +19,64 @@ use csl_style::VariableSet;
 pub(crate) struct NodeInfo {
     /// Whether the node would print, and its usage flags.
     pub(crate) answer: (bool, UsageInfo),
+    /// Whether the node shows the author, if the special form asks.
+    pub(crate) shows_author: bool,
     /// The variables that the dry run read. The result holds while the same of them are suppressed.
     pub(crate) read: VariableSet,
 }
 
 impl NodeInfo {
-    /// A result, with the variables that were read.
+    /// The result for a node that does not show the author, with the variables that were read.
     pub(crate) fn new(answer: (bool, UsageInfo), read: VariableSet) -> NodeInfo
         ensures answer { answer_of result ≡ info_view answer }
         ensures read { result.read ≡ read }
+        ensures author { result.shows_author ≡ false }
     {
-        NodeInfo { answer, read }
+        NodeInfo {
+            answer,
+            shows_author: false,
+            read,
+        }
+    }
+
+    /// The result with another answer.
+    pub(crate) fn with_answer(self, answer: (bool, UsageInfo)) -> NodeInfo
+        ensures answer { answer_of result ≡ info_view answer }
+        ensures read { result.read ≡ self.read }
+        ensures author { result.shows_author ≡ self.shows_author }
+    {
+        NodeInfo {
+            answer,
+            shows_author: self.shows_author,
+            read: self.read,
+        }
+    }
+
+    /// The result for a node that shows the author or not.
+    pub(crate) fn with_author(self, shows_author: bool) -> NodeInfo
+        ensures answer { answer_of result ≡ answer_of self }
+        ensures read { result.read ≡ self.read }
+        ensures author { result.shows_author ≡ shows_author }
+    {
+        NodeInfo {
+            answer: self.answer,
+            shows_author,
+            read: self.read,
+        }
+    }
+
+    /// The result for nodes together with one more child.
+    pub(crate) fn with_child(self, child: NodeInfo, is_group: bool) -> NodeInfo
+        ensures answer { answer_of result
+            ≡ info_union (answer_of self) (as_child_info is_group (answer_of child)) }
+        ensures read { (v : Variable) → has result.read v ≡ (has self.read v || has child.read v) }
+        ensures author { result.shows_author ≡ (self.shows_author || child.shows_author) }
+    {
+        NodeInfo {
+            answer: add_child_info(self.answer, child.answer, is_group),
+            shows_author: self.shows_author || child.shows_author,
+            read: self.read.union(child.read),
+        }
     }
 }
 
@@ -101,28 +150,37 @@ impl DryState {
 pub(crate) struct AskedNode {
     at: DryState,
     answer: (bool, UsageInfo),
+    shows_author: bool,
     inside: Vec<PlanItem>,
 }
 
 impl AskedNode {
-    /// An asked node from the state that the dry run read, its answer, and the plan of the nodes
+    /// An asked node from the state that the dry run read, its result, and the plan of the nodes
     /// inside.
-    pub(crate) fn new(at: DryState, answer: (bool, UsageInfo), inside: Vec<PlanItem>) -> AskedNode
+    pub(crate) fn new(at: DryState, info: NodeInfo, inside: Vec<PlanItem>) -> AskedNode
         ensures at { result.at ≡ at }
-        ensures answer { result.answer ≡ answer }
+        ensures answer { result.answer ≡ info.answer }
+        ensures author { result.shows_author ≡ info.shows_author }
         ensures inside { result.inside.items ≡ inside.items }
     {
-        AskedNode { at, answer, inside }
+        AskedNode {
+            at,
+            answer: info.answer,
+            shows_author: info.shows_author,
+            inside,
+        }
     }
 
     /// The plan of the node.
     pub(crate) fn plan(&self) -> NodePlan<'_>
         ensures answer { result.answer ≡ self.now.answer }
+        ensures author { result.shows_author ≡ self.now.shows_author }
         ensures at { result.inside.at.now ≡ self.now.at }
         ensures items { result.inside.items.now ≡ self.now.inside.items }
     {
         NodePlan {
             answer: self.answer,
+            shows_author: self.shows_author,
             inside: ListPlan {
                 at: &self.at,
                 items: self.inside.as_slice(),
@@ -135,6 +193,7 @@ impl AskedNode {
 #[derive(Clone, Copy)]
 pub(crate) struct NodePlan<'p> {
     answer: (bool, UsageInfo),
+    shows_author: bool,
     inside: ListPlan<'p>,
 }
 
@@ -151,6 +210,13 @@ impl<'p> NodePlan<'p> {
         ensures { usage_flags_of result ≡ (info_view self.now.answer).flags }
     {
         self.answer.1
+    }
+
+    /// Whether the node shows the author, if the special form asks.
+    pub(crate) fn shows_author(&self) -> bool
+        ensures { result ≡ self.now.shows_author }
+    {
+        self.shows_author
     }
 }
 
@@ -181,6 +247,7 @@ impl<'p> ListPlan<'p> {
         }
         Some(NodePlan {
             answer: first.info.answer,
+            shows_author: first.info.shows_author,
             inside: ListPlan {
                 at: self.at,
                 items: inside,

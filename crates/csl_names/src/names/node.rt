@@ -213,10 +213,10 @@ pub fn write_names<T>(
     let missing_et_al = EtAl::default();
     let inherited = ctx.name_options();
     let style = names_style(&parts, &inherited, &missing_name, &missing_et_al);
-    ctx.push_format(parts.formatting)?;
+    let before = ctx.enter_format(parts.formatting)?;
     let element = ctx.push_elem()?;
     push_affixed_body(ctx, &style, &parts, lists)?;
     commit_names(ctx, element, parts.display, lists)?;
-    ctx.pop_format();
+    ctx.leave_format(before);
     Ok(())
 }

@@ -111,7 +111,7 @@ impl NamesStyle<'_> {
               (map (cow_view person_view) persons.now) variable forms.now now.inner;
         }) result ctx.old ctx.new }
     {
-        ctx.push_format(self.name.formatting)?;
+        let before = ctx.enter_format(self.name.formatting)?;
         write_name_list(
             ctx,
             self.name,
@@ -121,7 +121,7 @@ impl NamesStyle<'_> {
             persons,
             forms,
         )?;
-        ctx.pop_format();
+        ctx.leave_format(before);
         Ok(())
     }
 

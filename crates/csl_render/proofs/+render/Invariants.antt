@@ -41,6 +41,18 @@ decreases-choose::ChooseNode::render_by g l = 8 * size (expand (macro_env l.ctx.
 abbrev pub decreases-names::NamesNode::render_by : goal.decreases-names::NamesNode::render_by
 decreases-names::NamesNode::render_by g l = 8 * size (expand (macro_env l.ctx.now.style) (view_names l.self.now))
 
+abbrev pub decreases-names::render_unplanned_names : goal.decreases-names::render_unplanned_names
+decreases-names::render_unplanned_names g l = 8 * expanded_substitutes_size (expanded_substitutes_of (macro_env l.ctx.now.style) l.names.now) + 6
+
+abbrev pub decreases-names::render_asked_names : goal.decreases-names::render_asked_names
+decreases-names::render_asked_names g l = 8 * expanded_substitutes_size (expanded_substitutes_of (macro_env l.ctx.now.style) l.names.now) + 5
+
+abbrev pub decreases-names::render_names_by_plan : goal.decreases-names::render_names_by_plan
+decreases-names::render_names_by_plan g l = 8 * expanded_substitutes_size (expanded_substitutes_of (macro_env l.ctx.now.style) l.names.now) + 4
+
+abbrev pub decreases-names::render_names : goal.decreases-names::render_names
+decreases-names::render_names g l = 8 * expanded_substitutes_size (expanded_substitutes_of (macro_env l.ctx.now.style) l.names.now) + 3
+
 abbrev pub decreases-names::render_lists : goal.decreases-names::render_lists
 decreases-names::render_lists g l = 8 * expanded_substitutes_size (expanded_substitutes_of (macro_env l.ctx.now.style) l.names.now) + 2
 

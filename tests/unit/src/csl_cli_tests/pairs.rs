@@ -5,9 +5,9 @@ use crate::csl_cli_tests::shared::{entries, title_only};
 use crate::shared::put;
 use csl_context::LeftState;
 use csl_entry::{CiteProperties, DisambiguateState};
-use csl_render::{Pair, cite_pair, render_pair};
+use csl_render::{Pair, cite_pair, cite_pair_with, render_pair};
 use csl_samples::{BuiltIn, BuiltInStyle, title_style};
-use csl_style::{Layout, Scope, StandardVariable, Text};
+use csl_style::{Layout, Scope, StandardVariable, Text, named_by};
 use std::alloc::Global;
 use std::process::Abort;
 
@@ -87,4 +87,27 @@ fn a_book_and_a_title_alone(rt: HostRuntime) {
     let pair = pair_of_book(&rt, rt.alloc(), "Nature");
     assert_pair(&rt, &pair, false, book, "Nature");
     drop(pair);
+}
+
+#[test]
+fn pairs_on_a_set(rt: HostRuntime) {
+    let alloc = rt.alloc();
+    let which = [BuiltIn::CrazyRich, BuiltIn::QuantizedVortex];
+    let entries = entries(&rt, alloc, &which);
+    let book = entries.first().expect(&rt, "a book");
+    let article = entries.last().expect(&rt, "an article");
+    let style = BuiltInStyle::AuthorDate.style(alloc).expect(&rt, "memory");
+    let cite_props = CiteProperties::first(DisambiguateState::None);
+    let named = named_by(alloc, &style, style.citation()).expect(&rt, "memory");
+    for (right, is_alike, html) in [
+        (book, true, "(Kwan, 2014)"),
+        (article, false, "(Gross, 1961)"),
+    ] {
+        let pair = cite_pair_with(alloc, &style, &cite_props, &named, book, right);
+        let pair = pair.expect(&rt, "memory");
+        assert_pair(&rt, &pair, is_alike, "(Kwan, 2014)", html);
+        drop(pair);
+    }
+    drop(named);
+    drop(style);
 }

@@ -1,7 +1,7 @@
 //! Strangers' styles with long lists: of children of names, of parts of a localized date, of ordinals
 //! and of locales. Where a size leaves such a list out, or each lookup goes through it, two sizes
 //! multiply. A work whose name ends in `_asked` renders nothing: it returns 1 if the citation layout is
-//! within the limits that `docs/CALLING.md` gives, and 0 if not.
+//! within the limits that `docs/SAFETY.md` gives, and 0 if not.
 
 use crate::bench::entry::article;
 use crate::bench::render::text_size;

@@ -18,7 +18,7 @@ use csl::style::{
 };
 use std::alloc::Global;
 
-/// The limit of the depth, as `docs/CALLING.md` gives it.
+/// The limit of the depth, as `docs/SAFETY.md` gives it.
 pub const DEPTH: usize = 64;
 
 /// How many substitutes in one another the depth allows, each with a group in it.

@@ -34,6 +34,8 @@ fn opening_fails<'s, T>(ctx: &mut Context<'s, T>) -> bool {
         && says_failed(ctx.push_quotes())
         && says_failed(ctx.push_format(Formatting::default()))
         && says_failed(ctx.push_delimiter(None))
+        && says_failed(ctx.enter_format(Formatting::default()))
+        && says_failed(ctx.enter_delimiter(None))
         && says_failed(ctx.push_name_options(&style.settings().names))
 }
 

@@ -18,6 +18,6 @@ returns g c =
     let v = c.args.self.now.variable in
     let l = view_label c.args.self.now.label in
     let read = subst (Has c.with-read.result) c.from.ensures ((c.with-read.ensures c.from.result).1 (inl refl)) in
-    leaf g.T.EntryLike.answers run (expanded now.style (label v l)) c.new-2.result (λ s alike.
+    leaf g.T.EntryLike.answers run (expanded now.style (label v l)) c.new-2.result c.new-2.ensures.author (λ s asks. refl) (λ s alike.
     let same = alike.1 (variable_of v) (subst (λ set. Has set (variable_of v)) (sym c.new-2.ensures.read) read) in
     c.new-2.ensures.answer ∙ c.in_ok-answer.ensures ∙ ap (λ b. label_info (input b) b.state v l) c.context.ensures ∙ label_info_same (input now) now.state s v l same)

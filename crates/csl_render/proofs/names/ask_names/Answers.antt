@@ -1,0 +1,18 @@
+use Rattle.std.proofs.Common.{ap, subst, ◌∙◌}
+use Rattle.csl_elements.specs.Node.{expand}
+use Rattle.csl_elements.specs.View.{view_names}
+use Rattle.csl_style.specs.Expanded.{macro_env}
+use Rattle.csl_context.specs.ContextView.{render_input}
+use Rattle.csl_render.specs.DryRun.{Adds}
+use Rattle.csl_render.specs.Plan.{dry_now, dry_view, IsInfo}
+use Rattle.csl_render.proofs.Plans.{asked}
+use Rattle.csl_render.proofs.names.ask_names.Goals as goal
+
+pub returns : goal.returns
+returns g c =
+    let now = c.args.ctx.now in
+    let answers = g.T.EntryLike.answers in
+    let n = view_names c.args.names.now in
+    let end = c.node_info.new.run in
+    let found = subst (λ r. Adds (IsInfo (render_input answers r.now) (dry_now r.now) (expand (macro_env r.now.style) n) c.in_ok-info.info) r end) c.new-run.ensures c.in_ok-info.ensures in
+    asked answers now (expand (macro_env now.style) n) c.in_ok-info.info end c.new.result found (ap dry_view c.new.ensures.at ∙ c.of-at.ensures) c.new.ensures.answer c.new.ensures.author (c.new.ensures.inside ∙ c.into_items.ensures)
