@@ -1,5 +1,7 @@
 pub mod Errors
+pub mod Words
 pub mod Language
+pub mod Languages
 pub use Rattle.csl_common.specs as Common
 pub use Rattle.lit_model.specs as Literature
 pub mod Style

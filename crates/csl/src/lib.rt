@@ -24,8 +24,8 @@ pub use csl_entry::{
 pub use csl_names::{write_name, write_name_list};
 pub use csl_render as render;
 pub use csl_render::{
-    Pair, RenderCsl, bibliography_entry, choose_children, cite, cite_in, cite_pair, render_pair,
-    sort_key,
+    Pair, RenderCsl, bibliography_entry, choose_children, cite, cite_in, cite_pair, cite_pair_with,
+    render_pair, sort_key,
 };
 pub use csl_style as style;
 pub use csl_style::{Locale, Scope, Style, StyleError, named_by};

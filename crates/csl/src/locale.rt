@@ -4,16 +4,49 @@ ghost use Rattle.std.specs.Prelude.{◌≡◌, false, true, IfOk, map};
 ghost use Rattle.csl_elements.specs.Locale.{term_view, ordinal_view};
 ghost use Rattle.csl_elements.specs.View.{view_date, view_date_part};
 ghost use Rattle.csl_elements.specs.declared.date.DateForm.TheVariants.{Numeric, Text};
-ghost use Rattle.csl.specs.Language.{IsOfLanguage, date_of_rows, date_part_of_row};
-ghost use Rattle.csl.specs.Language.{gendered_term_of_row, ordinal_of_row, term_of_row};
+ghost use Rattle.csl.specs.Language.{HasContents, language_contents, date_of_rows};
+ghost use Rattle.csl.specs.Language.{date_part_of_row, gendered_term_of_row, ordinal_of_row};
+ghost use Rattle.csl.specs.Language.{term_of_row, term_of_word};
+ghost use Rattle.csl.specs.Languages.{english_contents, german_contents, french_contents};
+ghost use Rattle.csl.specs.Languages.{spanish_contents, italian_contents, dutch_contents};
+ghost use Rattle.csl.specs.Languages.{brazilian_portuguese_contents, polish_contents};
+ghost use Rattle.csl.specs.Languages.{japanese_contents, simplified_chinese_contents};
+ghost use Rattle.csl.specs.Words.{BeginsWith, english_words, german_words, french_words};
+ghost use Rattle.csl.specs.Words.{spanish_words, italian_words, brazilian_portuguese_words};
+ghost use Rattle.csl.specs.Words.{dutch_words, polish_words, japanese_words};
+ghost use Rattle.csl.specs.Words.{simplified_chinese_words};
 
 use crate::words::{
-    BRAZILIAN_PORTUGUESE, DUTCH, DatePartRow, ENGLISH, FRENCH, GERMAN, GenderedTermRow, ITALIAN,
-    JAPANESE, Language, OrdinalRow, POLISH, SIMPLIFIED_CHINESE, SPANISH, TermRow,
+    DatePartRow, GenderedTermRow, Language, OrdinalRow, TermRow, WordRow,
+    brazilian_portuguese_language, dutch_language, english_language, french_language,
+    german_language, italian_language, japanese_language, polish_language,
+    simplified_chinese_language, spanish_language,
 };
-use csl_style::{Affixes, Date, DateForm, DatePart, Locale, OrdinalTerm, TermEntry, TermForm};
+use csl_style::{
+    Affixes, Date, DateForm, DatePart, Locale, OrdinalTerm, Term, TermEntry, TermForm,
+};
 use lit_model::Memory;
 use std::alloc::Global;
+
+/// The term of a word.
+fn word_term(alloc: Global, row: &WordRow) -> Result<TermEntry, Memory>
+    ensures { IfOk result (λ made. term_view made ≡ term_of_word row.now) }
+{
+    let mut entry = TermEntry::new(alloc, Term::Other(row.0), row.1, row.2)?;
+    entry.gender = row.3;
+    Ok(entry)
+}
+
+/// The terms of words.
+fn word_terms(alloc: Global, rows: &[WordRow]) -> Result<Vec<TermEntry>, Memory>
+    ensures { IfOk result (λ made. map term_view made.items ≡ map term_of_word rows.now) }
+{
+    let mut terms = Vec::new(alloc);
+    for row in rows {
+        terms.push(word_term(alloc, row)?)?;
+    }
+    Ok(terms)
+}
 
 /// The term of a row.
 fn term(alloc: Global, row: &TermRow) -> Result<TermEntry, Memory>
@@ -109,9 +142,10 @@ fn date(alloc: Global, form: DateForm, rows: &[DatePartRow]) -> Result<Date, Mem
 
 /// The locale of a language.
 fn locale(alloc: Global, language: &Language) -> Result<Locale, Memory>
-    ensures { IfOk result (IsOfLanguage language.now) }
+    ensures { IfOk result (HasContents (language_contents language.now)) }
 {
-    let mut all = terms(alloc, language.terms)?;
+    let mut all = word_terms(alloc, language.words)?;
+    all.append(&mut terms(alloc, language.terms)?)?;
     all.append(&mut gendered_terms(alloc, language.gendered_terms)?)?;
     let ordinals = ordinals(alloc, language.ordinals)?;
     let numeric = date(alloc, DateForm::Numeric, language.numeric_date)?;
@@ -137,10 +171,13 @@ fn locale(alloc: Global, language: &Language) -> Result<Locale, Memory>
 /// # Errors
 /// [`Memory`]: out of memory.
 pub fn english(alloc: Global) -> Result<Locale, Memory>
+    ensures whole { IfOk result (HasContents english_contents) }
+    ensures words { IfOk result (BeginsWith english_words) }
     ensures quote { IfOk result (λ locale. locale.punctuation_in_quote ≡ true) }
     ensures days { IfOk result (λ locale. locale.limit_day_ordinals_to_day_1 ≡ false) }
 {
-    locale(alloc, &ENGLISH)
+    let made = locale(alloc, &english_language())?;
+    Ok(made)
 }
 
 /// Returns the German locale, as [`english`] does the English one: the terms, ordinals, dates and
@@ -150,10 +187,13 @@ pub fn english(alloc: Global) -> Result<Locale, Memory>
 /// # Errors
 /// [`Memory`]: out of memory.
 pub fn german(alloc: Global) -> Result<Locale, Memory>
+    ensures whole { IfOk result (HasContents german_contents) }
+    ensures words { IfOk result (BeginsWith german_words) }
     ensures quote { IfOk result (λ locale. locale.punctuation_in_quote ≡ false) }
     ensures days { IfOk result (λ locale. locale.limit_day_ordinals_to_day_1 ≡ false) }
 {
-    locale(alloc, &GERMAN)
+    let made = locale(alloc, &german_language())?;
+    Ok(made)
 }
 
 /// Returns the French locale, as [`english`] does the English one: the terms with their genders,
@@ -164,10 +204,13 @@ pub fn german(alloc: Global) -> Result<Locale, Memory>
 /// # Errors
 /// [`Memory`]: out of memory.
 pub fn french(alloc: Global) -> Result<Locale, Memory>
+    ensures whole { IfOk result (HasContents french_contents) }
+    ensures words { IfOk result (BeginsWith french_words) }
     ensures quote { IfOk result (λ locale. locale.punctuation_in_quote ≡ false) }
     ensures days { IfOk result (λ locale. locale.limit_day_ordinals_to_day_1 ≡ true) }
 {
-    locale(alloc, &FRENCH)
+    let made = locale(alloc, &french_language())?;
+    Ok(made)
 }
 
 /// Returns the Spanish locale, as [`english`] does the English one: all that CSL's own locale
@@ -176,10 +219,13 @@ pub fn french(alloc: Global) -> Result<Locale, Memory>
 /// # Errors
 /// [`Memory`]: out of memory.
 pub fn spanish(alloc: Global) -> Result<Locale, Memory>
+    ensures whole { IfOk result (HasContents spanish_contents) }
+    ensures words { IfOk result (BeginsWith spanish_words) }
     ensures quote { IfOk result (λ locale. locale.punctuation_in_quote ≡ false) }
     ensures days { IfOk result (λ locale. locale.limit_day_ordinals_to_day_1 ≡ false) }
 {
-    locale(alloc, &SPANISH)
+    let made = locale(alloc, &spanish_language())?;
+    Ok(made)
 }
 
 /// Returns the Italian locale, as [`english`] does the English one: all that CSL's own locale
@@ -188,10 +234,13 @@ pub fn spanish(alloc: Global) -> Result<Locale, Memory>
 /// # Errors
 /// [`Memory`]: out of memory.
 pub fn italian(alloc: Global) -> Result<Locale, Memory>
+    ensures whole { IfOk result (HasContents italian_contents) }
+    ensures words { IfOk result (BeginsWith italian_words) }
     ensures quote { IfOk result (λ locale. locale.punctuation_in_quote ≡ false) }
     ensures days { IfOk result (λ locale. locale.limit_day_ordinals_to_day_1 ≡ false) }
 {
-    locale(alloc, &ITALIAN)
+    let made = locale(alloc, &italian_language())?;
+    Ok(made)
 }
 
 /// Returns the Portuguese locale, as [`english`] does the English one: all that CSL's own locale
@@ -200,10 +249,13 @@ pub fn italian(alloc: Global) -> Result<Locale, Memory>
 /// # Errors
 /// [`Memory`]: out of memory.
 pub fn brazilian_portuguese(alloc: Global) -> Result<Locale, Memory>
+    ensures whole { IfOk result (HasContents brazilian_portuguese_contents) }
+    ensures words { IfOk result (BeginsWith brazilian_portuguese_words) }
     ensures quote { IfOk result (λ locale. locale.punctuation_in_quote ≡ false) }
     ensures days { IfOk result (λ locale. locale.limit_day_ordinals_to_day_1 ≡ true) }
 {
-    locale(alloc, &BRAZILIAN_PORTUGUESE)
+    let made = locale(alloc, &brazilian_portuguese_language())?;
+    Ok(made)
 }
 
 /// Returns the Dutch locale, as [`english`] does the English one: all that CSL's own locale `nl-NL`
@@ -212,10 +264,13 @@ pub fn brazilian_portuguese(alloc: Global) -> Result<Locale, Memory>
 /// # Errors
 /// [`Memory`]: out of memory.
 pub fn dutch(alloc: Global) -> Result<Locale, Memory>
+    ensures whole { IfOk result (HasContents dutch_contents) }
+    ensures words { IfOk result (BeginsWith dutch_words) }
     ensures quote { IfOk result (λ locale. locale.punctuation_in_quote ≡ false) }
     ensures days { IfOk result (λ locale. locale.limit_day_ordinals_to_day_1 ≡ false) }
 {
-    locale(alloc, &DUTCH)
+    let made = locale(alloc, &dutch_language())?;
+    Ok(made)
 }
 
 /// Returns the Polish locale, as [`english`] does the English one: all that CSL's own locale
@@ -224,10 +279,13 @@ pub fn dutch(alloc: Global) -> Result<Locale, Memory>
 /// # Errors
 /// [`Memory`]: out of memory.
 pub fn polish(alloc: Global) -> Result<Locale, Memory>
+    ensures whole { IfOk result (HasContents polish_contents) }
+    ensures words { IfOk result (BeginsWith polish_words) }
     ensures quote { IfOk result (λ locale. locale.punctuation_in_quote ≡ false) }
     ensures days { IfOk result (λ locale. locale.limit_day_ordinals_to_day_1 ≡ false) }
 {
-    locale(alloc, &POLISH)
+    let made = locale(alloc, &polish_language())?;
+    Ok(made)
 }
 
 /// Returns the Japanese locale, as [`english`] does the English one: all that CSL's own locale
@@ -236,10 +294,13 @@ pub fn polish(alloc: Global) -> Result<Locale, Memory>
 /// # Errors
 /// [`Memory`]: out of memory.
 pub fn japanese(alloc: Global) -> Result<Locale, Memory>
+    ensures whole { IfOk result (HasContents japanese_contents) }
+    ensures words { IfOk result (BeginsWith japanese_words) }
     ensures quote { IfOk result (λ locale. locale.punctuation_in_quote ≡ false) }
     ensures days { IfOk result (λ locale. locale.limit_day_ordinals_to_day_1 ≡ false) }
 {
-    locale(alloc, &JAPANESE)
+    let made = locale(alloc, &japanese_language())?;
+    Ok(made)
 }
 
 /// Returns the Chinese locale, as [`english`] does the English one: all that CSL's own locale
@@ -248,8 +309,11 @@ pub fn japanese(alloc: Global) -> Result<Locale, Memory>
 /// # Errors
 /// [`Memory`]: out of memory.
 pub fn simplified_chinese(alloc: Global) -> Result<Locale, Memory>
+    ensures whole { IfOk result (HasContents simplified_chinese_contents) }
+    ensures words { IfOk result (BeginsWith simplified_chinese_words) }
     ensures quote { IfOk result (λ locale. locale.punctuation_in_quote ≡ false) }
     ensures days { IfOk result (λ locale. locale.limit_day_ordinals_to_day_1 ≡ false) }
 {
-    locale(alloc, &SIMPLIFIED_CHINESE)
+    let made = locale(alloc, &simplified_chinese_language())?;
+    Ok(made)
 }

@@ -1,11 +1,12 @@
 //! Languages as data: what their locales hold (CSL 1.0.2, Locale). A further language is a file of
-//! rows like those here, and a function that returns its locale.
+//! rows like those here, its contents in `specs/Languages.antt`, its words in `specs/Words.antt`,
+//! and a function that returns its locale.
 //!
 //! The rows have the words, ordinals, dates and options of CSL's own locales;
 //! `tools/language` writes them from these, and `tools/compare_locales` lists those that differ.
 
 use csl_style::{
-    DateAnyForm, DatePartName, GrammarGender, OrdinalMatch, OrdinalSlot, Term, TermForm,
+    DateAnyForm, DatePartName, GrammarGender, OrdinalMatch, OrdinalSlot, OtherTerm, Term, TermForm,
 };
 
 mod brazilian_portuguese;
@@ -19,16 +20,19 @@ mod polish;
 mod simplified_chinese;
 mod spanish;
 
-pub(crate) use brazilian_portuguese::BRAZILIAN_PORTUGUESE;
-pub(crate) use dutch::DUTCH;
-pub(crate) use english::ENGLISH;
-pub(crate) use french::FRENCH;
-pub(crate) use german::GERMAN;
-pub(crate) use italian::ITALIAN;
-pub(crate) use japanese::JAPANESE;
-pub(crate) use polish::POLISH;
-pub(crate) use simplified_chinese::SIMPLIFIED_CHINESE;
-pub(crate) use spanish::SPANISH;
+pub(crate) use brazilian_portuguese::brazilian_portuguese_language;
+pub(crate) use dutch::dutch_language;
+pub(crate) use english::english_language;
+pub(crate) use french::french_language;
+pub(crate) use german::german_language;
+pub(crate) use italian::italian_language;
+pub(crate) use japanese::japanese_language;
+pub(crate) use polish::polish_language;
+pub(crate) use simplified_chinese::simplified_chinese_language;
+pub(crate) use spanish::spanish_language;
+
+/// A word that most styles print, its form, its text, and its gender.
+pub(crate) type WordRow = (OtherTerm, TermForm, &'static str, Option<GrammarGender>);
 
 /// A term, its form, its singular, and its plural if that differs.
 pub(crate) type TermRow = (Term, TermForm, &'static str, Option<&'static str>);
@@ -53,10 +57,13 @@ pub(crate) type DatePartRow = (
 );
 
 /// What the locale of a language holds.
+#[derive(Clone, Copy)]
 pub(crate) struct Language {
-    /// The terms without a gender.
+    /// The words that most styles print.
+    pub(crate) words: &'static [WordRow],
+    /// The other terms without a gender.
     pub(crate) terms: &'static [TermRow],
-    /// The terms with a gender. Other forms than the long one have none.
+    /// The other terms with a gender. Other forms than the long one have none.
     pub(crate) gendered_terms: &'static [GenderedTermRow],
     pub(crate) ordinals: &'static [OrdinalRow],
     /// The date format in numbers.

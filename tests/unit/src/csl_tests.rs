@@ -8,3 +8,4 @@ mod languages;
 mod lists;
 mod more_languages;
 mod terms;
+mod whole_locales;
