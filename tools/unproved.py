@@ -5,7 +5,7 @@ This module lays them out as a crate, named after the folder, in a copy of the c
 Its `compiled` keeps what the kit compiles, so that tools can link it into a program of their own.
 
 As a command, `python3 tools/unproved.py FOLDER..` formats the files of the folders where they
-stand."""
+stand. The tools that build them fail if they are not formatted."""
 import glob
 import os
 import signal

@@ -1,46 +1,23 @@
-//! What a row asks of its nodes and its cite, and the answer in words.
+//! The answers to what a row asks of its style, its nodes and its cite, in words.
 
 use crate::cite::{CITE, properties, special_form, start};
 use crate::entry::entry;
 use crate::fault::Fault;
 use crate::form::Forms;
-use crate::missing::add_missing;
+use crate::layouts::add_of_layout;
 use crate::nodes::{layout_line, node_line};
+use crate::question::Question;
 use crate::scene::Scene;
 use crate::style::style;
 use crate::tree_words::{add_state, add_tree};
 use crate::work::Work;
 use csl::context::Rendered;
 use csl::render::Pair;
-use csl::style::{RenderingElement, Variable};
+use csl::style::RenderingElement;
 use csl::{
-    BufWriteFormat, CiteProperties, InstanceContext, Scope, Style, bibliography_entry, cite,
-    cite_pair, render_pair,
+    CiteProperties, InstanceContext, Scope, Style, bibliography_entry, cite, cite_pair, render_pair,
 };
 use std::alloc::Global;
-
-/// A question about a row.
-#[derive(Clone, Copy)]
-pub enum Question {
-    /// The content, as plain text or as HTML.
-    Text(BufWriteFormat),
-    /// The content, as a tree.
-    Tree,
-    /// The state after the nodes.
-    Left,
-    /// The usage flags of a dry run.
-    Dry,
-    /// Whether the nodes would show a variable.
-    Shows(Variable),
-    /// The tests of the first branch of a choice: 1 for one that holds, 0 for another.
-    Tests,
-    /// The errors of rendering and of a dry run.
-    Errors,
-    /// Whether the entry and the one beside it are alike, and the HTML of both.
-    Pair,
-    /// The terms that the layout asks for and that no locale has.
-    Missing,
-}
 
 /// The lines that a row consists of. All but those of the style are parsed for each question.
 #[derive(Clone, Copy)]
@@ -48,12 +25,26 @@ pub struct Row<'r> {
     pub alloc: Global,
     pub base: &'r str,
     pub style: &'r str,
+    /// The line of a tree, of HTML or of a work, or nothing for a row about nodes.
+    pub subject: &'r str,
+    /// The line of what a snapshot of the work keeps, or nothing.
+    pub snapshot: &'r str,
     /// The line of the nodes, or nothing for the style's own layout.
     pub nodes: &'r str,
     pub entry: &'r str,
     /// The line of the entry beside it, or nothing.
     pub beside: &'r str,
     pub cite: &'r str,
+}
+
+/// The answer of a style, whatever the layout is.
+fn answer_of_style<'s>(style: &'s Style, question: Question, scope: Scope) -> Option<&'s str> {
+    match question {
+        Question::MissingMacro => Some(style.missing_macro().unwrap_or("")),
+        Question::Suffix if style.renders_year_suffix_implicitly(scope) => Some("implicit"),
+        Question::Suffix => Some("explicit"),
+        _ => None,
+    }
 }
 
 impl<'r> Row<'r> {
@@ -89,6 +80,10 @@ impl<'r> Row<'r> {
         let work = self.work(self.entry)?;
         let scope = forms.choice("scope")?.unwrap_or(Scope::Citation);
         let mut words = String::new(self.alloc);
+        if let Some(answer) = answer_of_style(style, question, scope) {
+            words.push_str(answer)?;
+            return Ok(words);
+        }
         match self.element()? {
             Some(element) => {
                 let start = start(&forms)?;
@@ -133,12 +128,13 @@ impl<'r> Row<'r> {
             Question::Tests => scene.add_tests(words),
             Question::Errors => scene.add_errors(words),
             Question::Pair => self.add_pair(words, scene),
-            Question::Missing => match scene.element {
+            Question::OfLayout(question) => match scene.element {
                 RenderingElement::Layout(layout) => {
-                    add_missing(words, self.alloc, scene.style, layout)
+                    add_of_layout(words, self.alloc, scene.style, layout, question)
                 }
-                _ => Err(Fault::Wrong("missing terms need a layout")),
+                _ => Err(Fault::Wrong("this needs a layout")),
             },
+            _ => Err(Fault::Wrong("this is asked of a work, of a tree or of HTML")),
         }
     }
 
@@ -193,8 +189,8 @@ impl<'r> Row<'r> {
                 let pair = cite_pair(self.alloc, style, cite_props, work, &right)?;
                 add_pair_words(words, &pair)
             }
-            (Question::Missing, _) => match style.layout(scope) {
-                Some(layout) => add_missing(words, self.alloc, style, layout),
+            (Question::OfLayout(question), _) => match style.layout(scope) {
+                Some(layout) => add_of_layout(words, self.alloc, style, layout, question),
                 None => Ok(words.push_str("(no bibliography)")?),
             },
             _ => Err(Fault::Wrong("this needs a layout or a node line")),

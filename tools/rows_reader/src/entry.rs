@@ -54,7 +54,7 @@ fn either<T: Drop>(
 
 /// A number, as `(volume 20)`; a text in its place, as `(volume "20")`; or a text that may be a
 /// number, as `(volume either=20)`.
-fn number(forms: &Forms<'_>) -> Result<MaybeTyped<Numeric>, Fault> {
+pub fn number(forms: &Forms<'_>) -> Result<MaybeTyped<Numeric>, Fault> {
     forms.ensure_attributes(&["either"])?;
     if let Some(text) = forms.value("either") {
         return either(forms.alloc, text, Numeric::parse(forms.alloc, text));
@@ -86,7 +86,7 @@ fn open_range(alloc: Global, text: &str) -> Result<PageRangesPart, Fault> {
 /// Pages, as `(page 321-8, 5)`; a text in their place, as `(page "i-iv")`; a text that may be pages,
 /// as `(page either="321-8")`; a range in full, as `(page full=42-5)`; or a range from a page on, as
 /// `(page from=4000)`.
-fn pages(forms: &Forms<'_>) -> Result<MaybeTyped<PageRanges>, Fault> {
+pub fn pages(forms: &Forms<'_>) -> Result<MaybeTyped<PageRanges>, Fault> {
     forms.ensure_attributes(&["full from either"])?;
     if let Some(text) = forms.value("either") {
         return either(forms.alloc, text, PageRanges::parse(forms.alloc, text));
@@ -147,7 +147,7 @@ fn pieces(forms: &Forms<'_>) -> Result<ChunkedString, Fault> {
 }
 
 /// A text, and its short form, if `short` sets one.
-fn text(forms: &Forms<'_>) -> Result<FormatString, Fault> {
+pub fn text(forms: &Forms<'_>) -> Result<FormatString, Fault> {
     forms.ensure_attributes(&["short"])?;
     let short = match forms.value("short") {
         Some(short) => Some(ChunkedString::plain(forms.alloc, short)?),
@@ -170,7 +170,7 @@ fn counted_from_zero(forms: &Forms<'_>, word: Option<&str>) -> Result<Option<u8>
 
 /// A date: a year, a month and a day, as `(issued 2014 5 2)`. `day=2` is a day without a month,
 /// `season=summer` a season; `circa=true` makes the date approximate.
-fn date(forms: &Forms<'_>) -> Result<Date, Fault> {
+pub fn date(forms: &Forms<'_>) -> Result<Date, Fault> {
     forms.ensure_attributes(&["day season circa"])?;
     let text = words(forms)?;
     let mut words = text.as_str().split(' ');
@@ -215,7 +215,8 @@ fn person(forms: &Forms<'_>, form: &Form<'_>) -> Result<Person, Fault> {
     }
 }
 
-fn persons(forms: &Forms<'_>) -> Result<Vec<Person>, Fault> {
+/// The persons of a list, in order.
+pub fn persons(forms: &Forms<'_>) -> Result<Vec<Person>, Fault> {
     let mut persons = Vec::new(forms.alloc);
     for form in &forms.items {
         persons.push(person(forms, form)?)?;

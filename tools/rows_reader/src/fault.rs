@@ -14,6 +14,8 @@ pub enum Fault {
     Wrong(&'static str),
     /// What is wrong, and the word that is.
     Word(&'static str, String),
+    /// The reason why a style is refused.
+    Refused(StyleError),
 }
 
 impl Fault {
@@ -22,6 +24,17 @@ impl Fault {
         match String::from_str(alloc, word) {
             Ok(word) => Fault::Word(reason, word),
             Err(_) => Fault::Memory,
+        }
+    }
+
+    /// What is wrong, in words. Out of memory is no fault of a line, and has none.
+    pub fn words(&self, alloc: Global) -> Result<String, Fault> {
+        match self {
+            Fault::Memory => Err(Fault::Memory),
+            Fault::Wrong(reason) => Ok(String::from_str(alloc, *reason)?),
+            Fault::Word(reason, word) if word.is_empty() => Ok(String::from_str(alloc, *reason)?),
+            Fault::Word(reason, word) => Ok(format!(in alloc; "{reason}: {word}")?),
+            Fault::Refused(error) => Ok(format!(in alloc; "{error}")?),
         }
     }
 }
@@ -60,8 +73,7 @@ impl From<StyleError> for Fault {
     fn from(error: StyleError) -> Fault {
         match error {
             StyleError::Memory => Fault::Memory,
-            StyleError::CyclicMacro(name) => Fault::Word("a cyclic macro", name),
-            StyleError::ChicagoPageFormat => Fault::Wrong("a Chicago page format"),
+            error => Fault::Refused(error),
         }
     }
 }

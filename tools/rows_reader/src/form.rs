@@ -192,6 +192,32 @@ impl<'t> Forms<'t> {
         found.ok_or(Fault::Wrong("a word is missing"))
     }
 
+    /// The text in quotes among the forms. The others are attributes.
+    pub fn only_text(&self) -> Result<&'t str, Fault> {
+        let mut found = None;
+        for form in &self.items {
+            match form {
+                Form::Text(text) if found.is_none() => found = Some(*text),
+                Form::Attribute(_, _) => {}
+                Form::Word(word) | Form::Text(word) | Form::List(word, _) => {
+                    return Err(self.fault("one text goes here", *word));
+                }
+            }
+        }
+        found.ok_or(Fault::Wrong("one text goes here"))
+    }
+
+    /// The number that the forms begin with.
+    pub fn first_number(&self) -> Result<usize, Fault> {
+        match self.items.first() {
+            Some(Form::Word(word)) => match word.parse::<usize>() {
+                Ok(number) => Ok(number),
+                Err(_) => Err(self.fault("not a number", *word)),
+            },
+            _ => Err(Fault::Wrong("a number is missing")),
+        }
+    }
+
     /// The first list with this word.
     pub fn list(&self, head: &str) -> Option<&Forms<'t>> {
         for form in &self.items {

@@ -6,11 +6,11 @@
 //! by its cite and its line of the bibliography, whose first field is apart if the style aligns it.
 //! What is wrong with a request is a line `fault`.
 
-use crate::answers::Question;
 use crate::driver::{Key, around, keys};
 use crate::entry::entry;
 use crate::fault::Fault;
 use crate::form::{Form, Forms};
+use crate::question::Question;
 use crate::rows::printed;
 use crate::scene::Scene;
 use crate::style::style;
@@ -54,16 +54,7 @@ fn reply(rt: &impl Print, alloc: Global, word: &str, text: &str) -> Result<(), F
 
 /// Prints a fault as an answer. Out of memory is none.
 fn reply_fault(rt: &impl Print, alloc: Global, fault: Fault) -> Result<(), Fault> {
-    match fault {
-        Fault::Memory => Err(Fault::Memory),
-        Fault::Wrong(reason) => reply(rt, alloc, "fault", reason),
-        Fault::Word(reason, word) => {
-            let mut text = String::from_str(alloc, reason)?;
-            text.push_str(": ")?;
-            text.push_str(word.as_str())?;
-            reply(rt, alloc, "fault", text.as_str())
-        }
-    }
+    reply(rt, alloc, "fault", fault.words(alloc)?.as_str())
 }
 
 /// Prints a content as plain text and as HTML. Only web addresses are links.

@@ -1,7 +1,8 @@
 //! The program of `tools/rows`: it reads rows from standard input, each of which has nodes, an entry,
-//! a cite and what is wanted of them. It prints each row that is not as wanted, and how many are.
-//! With the argument `try`, a row that wants nothing prints what came. With the argument `items` it is
-//! the program of `tools/try`, and reads requests. Nothing proves this program.
+//! a cite and what is wanted of them, or a style, a work or a tree and what is wanted of it. It prints
+//! each row that is not as wanted, and how many are. With the argument `try`, a row that wants nothing
+//! prints what came. With the argument `items` it is the program of `tools/try`, and reads requests.
+//! Nothing proves this program.
 #![tactic(auto)]
 
 mod answers;
@@ -9,17 +10,24 @@ mod choices;
 mod cite;
 mod driver;
 mod entry;
+mod entry_answers;
 mod fault;
 mod form;
 mod items;
+mod layouts;
+mod literature;
 mod missing;
 mod name_nodes;
 mod names;
 mod nodes;
+mod question;
 mod rows;
 mod scene;
 mod style;
+mod subjects;
+mod tree_answers;
 mod tree_words;
+mod trees;
 mod work;
 
 use fault::Fault;
@@ -98,6 +106,7 @@ fn main(rt: HostRuntime) -> ExitCode {
         Ok(false) => return ExitCode::FAILURE,
         Err(Fault::Memory) => (3, "out of memory"),
         Err(Fault::Wrong(reason) | Fault::Word(reason, _)) => (2, reason),
+        Err(Fault::Refused(_)) => (2, "a style is refused"),
     };
     // If this line cannot be printed, the status still reports the failure.
     let _ = rt.eprintln(reason);

@@ -3,12 +3,14 @@
 //! A line that begins with a space continues the line before it. An empty line ends a row. `#`
 //! begins a comment. A line `file NAME` begins a file: its lines count from 1, and no base is set.
 
-use crate::answers::{Question, Row};
+use crate::answers::Row;
 use crate::cite::properties;
 use crate::fault::Fault;
 use crate::form::Forms;
-use crate::names::Named;
-use csl::style::Variable;
+use crate::question::{Question, question};
+use crate::subjects::split_line;
+use crate::tree_answers::add_not_html;
+use csl::style::StyleError;
 use csl::{BufWriteFormat, Style};
 use std::alloc::Global;
 use std::mem;
@@ -22,6 +24,8 @@ pub struct Rows {
     file: String,
     base: String,
     style: String,
+    subject: String,
+    snapshot: String,
     nodes: String,
     entry: String,
     beside: String,
@@ -50,6 +54,8 @@ impl Rows {
             file: String::new(alloc),
             base: String::new(alloc),
             style: String::new(alloc),
+            subject: String::new(alloc),
+            snapshot: String::new(alloc),
             nodes: String::new(alloc),
             entry: String::new(alloc),
             beside: String::new(alloc),
@@ -99,6 +105,8 @@ impl Rows {
             alloc: self.alloc,
             base: self.base.as_str(),
             style: self.style.as_str(),
+            subject: self.subject.as_str(),
+            snapshot: self.snapshot.as_str(),
             nodes: self.nodes.as_str(),
             entry: self.entry.as_str(),
             beside: self.beside.as_str(),
@@ -110,12 +118,31 @@ impl Rows {
         if line.starts_with('#') {
             return Ok(());
         }
-        let (word, rest) = line.split_once(' ').unwrap_or((line, ""));
+        let (word, rest) = split_line(line);
+        if self.is_subject(word) {
+            return self.keep(line, word, rest);
+        }
         match (word, question(self.alloc, word, rest)?) {
             ("", _) => self.end_row(rt),
             ("file", _) => self.begin_file(rest),
             (_, Some((question, wanted))) => self.compare(rt, line, question, wanted),
             (_, None) => self.keep(line, word, rest),
+        }
+    }
+
+    /// Whether a line has a subject of the row. A tree or HTML is one if the row begins with it, and
+    /// so is each further one of a row that does.
+    fn is_subject(&self, word: &str) -> bool {
+        let own = split_line(self.subject.as_str()).0;
+        let is_first = self.style.is_empty()
+            && self.nodes.is_empty()
+            && self.entry.is_empty()
+            && self.cite.is_empty()
+            && own.is_empty();
+        match word {
+            "work" => true,
+            "tree" | "html" => is_first || own == word,
+            _ => false,
         }
     }
 
@@ -138,6 +165,8 @@ impl Rows {
         self.is_open = false;
         self.style.clear();
         self.style_of_row = None;
+        self.subject.clear();
+        self.snapshot.clear();
         self.nodes.clear();
         self.entry.clear();
         self.beside.clear();
@@ -149,8 +178,8 @@ impl Rows {
         if !self.is_trial {
             return Err(Fault::Wrong("no line says what is wanted of the row that ends here"));
         }
-        let plain = self.answer(Question::Text(BufWriteFormat::Plain))?;
-        let html = self.answer(Question::Text(BufWriteFormat::Html))?;
+        let plain = self.answer(Question::Text(BufWriteFormat::Plain), "")?;
+        let html = self.answer(Question::Text(BufWriteFormat::Html), "")?;
         print_came(rt, self.file.as_str(), self.number, "plain", plain.as_str())?;
         print_came(rt, self.file.as_str(), self.number, "html", html.as_str())
     }
@@ -160,6 +189,8 @@ impl Rows {
         let kept = match word {
             "base" => &mut self.base,
             "style" => &mut self.style,
+            "work" | "tree" | "html" => &mut self.subject,
+            "snapshot" => &mut self.snapshot,
             "layout" | "node" => &mut self.nodes,
             "entry" => &mut self.entry,
             "beside" => &mut self.beside,
@@ -168,7 +199,7 @@ impl Rows {
         };
         kept.clear();
         // Of these lines the word counts too.
-        let is_whole = matches!(word, "layout" | "node" | "beside");
+        let is_whole = !matches!(word, "base" | "style" | "entry" | "cite");
         kept.push_str(if is_whole { line } else { rest })?;
         self.is_open = word != "base";
         if matches!(word, "base" | "style") {
@@ -176,10 +207,21 @@ impl Rows {
             if word == "base" {
                 self.style_of_base = None;
             }
-            return self.make_style();
+            return match self.make_style() {
+                // (a further line may want the refusal)
+                Err(Fault::Refused(_)) if word == "style" => Ok(()),
+                outcome => outcome,
+            };
         }
-        let row = self.row();
+        self.ensure_kept(line)
+    }
+
+    /// Fails if a line cannot be parsed that is kept and has no style.
+    fn ensure_kept(&self, line: &str) -> Result<(), Fault> {
+        let (row, (word, rest)) = (self.row(), split_line(line));
         match word {
+            "work" | "tree" | "html" | "snapshot" => row.ensure_subject(line)?,
+            "beside" if row.has_work() => row.ensure_subject(line)?,
             "entry" | "beside" => drop(row.work(rest)?),
             "cite" => drop(properties(&Forms::read(self.alloc, rest)?)?),
             _ => drop(row.element()?),
@@ -199,9 +241,21 @@ impl Rows {
         Ok(())
     }
 
-    /// The answer of the row to a question.
-    fn answer(&mut self, question: Question) -> Result<String, Fault> {
-        self.make_style()?;
+    /// The answer of the row to a question. Some questions have a part in the wanted answer.
+    fn answer(&mut self, question: Question, wanted: &str) -> Result<String, Fault> {
+        if let Question::NotHtml = question {
+            let mut words = String::new(self.alloc);
+            add_not_html(&mut words, self.alloc, wanted)?;
+            return Ok(words);
+        }
+        if !self.subject.is_empty() {
+            return self.row().answer_of_subject(question, wanted);
+        }
+        let outcome = self.make_style();
+        if let Question::Refused = question {
+            return refusal(self.alloc, outcome);
+        }
+        outcome?;
         let is_own = !self.style.is_empty();
         let made = if is_own {
             &self.style_of_row
@@ -223,7 +277,7 @@ impl Rows {
         wanted: &str,
     ) -> Result<(), Fault> {
         self.is_open = false;
-        let answer = self.answer(question)?;
+        let answer = self.answer(question, wanted)?;
         self.rows = self.rows.saturating_add(1);
         if answer.as_str() == wanted {
             self.as_wanted = self.as_wanted.saturating_add(1);
@@ -237,15 +291,10 @@ impl Rows {
     /// Prints a fault, and counts it as a row that is not as wanted.
     fn count_fault(&mut self, rt: &impl Print, line: &str, fault: Fault) -> Result<(), Fault> {
         self.rows = self.rows.saturating_add(1);
-        let (reason, word) = match &fault {
-            Fault::Memory => return Err(Fault::Memory),
-            Fault::Wrong(reason) => (*reason, ""),
-            Fault::Word(reason, word) => (*reason, word.as_str()),
-        };
-        let (file, number) = (self.file.as_str(), self.number);
-        let colon = if word.is_empty() { "" } else { ": " };
+        let reason = fault.words(self.alloc)?;
+        let (file, number, reason) = (self.file.as_str(), self.number, reason.as_str());
         let gap = if line.is_empty() { "" } else { "\n  " };
-        printed(rt.println(format_args!("{file}:{number}: {reason}{colon}{word}{gap}{line}")))
+        printed(rt.println(format_args!("{file}:{number}: {reason}{gap}{line}")))
     }
 }
 
@@ -269,38 +318,16 @@ fn print_came(
     printed(rt.println(format_args!("{file}:{number}: {word} {quote}{came}{quote}")))
 }
 
-/// The text between quotes, or the text itself if it is in none.
-fn unquoted(text: &str) -> &str {
-    match text.strip_prefix('"') {
-        Some(rest) => rest.strip_suffix('"').unwrap_or(text),
-        None => text,
-    }
-}
-
-/// The question of a line, and the wanted answer, if the line has a question.
-fn question<'l>(
-    alloc: Global,
-    word: &str,
-    rest: &'l str,
-) -> Result<Option<(Question, &'l str)>, Fault> {
-    let found = match word {
-        "plain" => (Question::Text(BufWriteFormat::Plain), unquoted(rest)),
-        "html" => (Question::Text(BufWriteFormat::Html), unquoted(rest)),
-        "tree" => (Question::Tree, rest),
-        "left" => (Question::Left, rest),
-        "dry" => (Question::Dry, rest),
-        "tests" => (Question::Tests, rest),
-        "error" => (Question::Errors, rest),
-        "missing" => (Question::Missing, rest),
-        "pair" => (Question::Pair, unquoted(rest)),
-        "shows" | "hides" => {
-            let Some(variable) = Variable::from_name(rest) else {
-                return Err(Fault::of_word(alloc, "no such variable", rest));
-            };
-            let wanted = if word == "shows" { "yes" } else { "no" };
-            (Question::Shows(variable), wanted)
+/// What a style is refused for, in words.
+fn refusal(alloc: Global, outcome: Result<(), Fault>) -> Result<String, Fault> {
+    match outcome {
+        Ok(()) => Ok(String::from_str(alloc, "no")?),
+        Err(Fault::Refused(StyleError::CyclicMacro(name))) => {
+            Ok(format!(in alloc; "cyclic {name}")?)
         }
-        _ => return Ok(None),
-    };
-    Ok(Some(found))
+        Err(Fault::Refused(StyleError::ChicagoPageFormat)) => {
+            Ok(String::from_str(alloc, "chicago")?)
+        }
+        Err(fault) => Err(fault),
+    }
 }

@@ -1,7 +1,8 @@
 //! Scenes: what nodes are rendered for, and the results of their calls in words.
 
-use crate::answers::{Question, add_rendered};
+use crate::answers::add_rendered;
 use crate::fault::Fault;
+use crate::question::Question;
 use crate::tree_words::{add_state, add_word};
 use crate::work::Work;
 use csl::context::{Context, LeftState, RenderError, Rendered};

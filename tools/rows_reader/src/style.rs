@@ -136,12 +136,24 @@ fn locale(forms: &Forms<'_>, after: Option<&Locale>) -> Result<Locale, Fault> {
     Ok(locale)
 }
 
+/// Whether a locale says nothing.
+fn is_silent(locale: &Locale) -> bool {
+    locale.terms.is_empty()
+        && locale.ordinals.is_empty()
+        && locale.dates.is_empty()
+        && !locale.punctuation_in_quote
+        && !locale.limit_day_ordinals_to_day_1
+}
+
 /// The locales: that of the style's own forms, each `(locale ..)`, and that of the language that the
-/// style names.
+/// style names. There are none if the style says nothing of them.
 fn locales(forms: &Forms<'_>) -> Result<Vec<Locale>, Fault> {
     let language = default_locale(forms)?;
     let mut locales = Vec::new(forms.alloc);
-    locales.push(locale(forms, language.as_ref())?)?;
+    let own = locale(forms, language.as_ref())?;
+    if !is_silent(&own) || language.is_some() || forms.list("locale").is_some() {
+        locales.push(own)?;
+    }
     for form in &forms.items {
         if let Form::List("locale", inside) = form {
             inside.ensure_attributes(&[LOCALE])?;

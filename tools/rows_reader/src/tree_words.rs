@@ -1,11 +1,12 @@
 //! Contents and states in words, as a row wants them: `(text "T")` is the element of a text,
 //! `(span font-style=italic "T")` a text in a formatting, `(link url="u" "T")` a link,
 //! `(math "x")` markup, `(cite 0)` the place of a cite that the caller fills, and `(elem ..)` an
-//! element of no node. A state is in the words of the `cite` line that begins with it.
+//! element of no node. In a tree that a row gives, the places of entries and the persons of names
+//! are told too. A state is in the words of the `cite` line that begins with it.
 
 use crate::fault::Fault;
 use crate::names::Name;
-use csl::style::Variable;
+use csl::literature::Person;
 use csl::tree::{Elem, ElemChild, ElemChildren, ElemMeta, Formatted, Formatting};
 use csl::{LeftState, NameDisambiguationProperties};
 
@@ -17,7 +18,8 @@ pub fn add_word(words: &mut String, word: &str) -> Result<(), Fault> {
     Ok(words.push_str(word)?)
 }
 
-fn add_quoted(words: &mut String, text: &str) -> Result<(), Fault> {
+/// Appends a text in quotes.
+pub fn add_quoted(words: &mut String, text: &str) -> Result<(), Fault> {
     add_word(words, "\"")?;
     words.push_str(text)?;
     Ok(words.push('"')?)
@@ -51,7 +53,8 @@ fn add_formatting(words: &mut String, it: Formatting) -> Result<(), Fault> {
     add_changed(words, "vertical-align", it.vertical_align)
 }
 
-fn add_text(words: &mut String, text: &Formatted) -> Result<(), Fault> {
+/// Appends a text, in a span if it has a formatting.
+pub fn add_text(words: &mut String, text: &Formatted) -> Result<(), Fault> {
     if text.formatting == Formatting::default() {
         return add_quoted(words, text.text.as_str());
     }
@@ -86,26 +89,67 @@ fn head_of(meta: &Option<ElemMeta>) -> &'static str {
     }
 }
 
+/// Appends a person, as an entry has it: `"Kwan, Kevin"`.
+pub fn add_person(words: &mut String, person: &Person) -> Result<(), Fault> {
+    add_word(words, "\"")?;
+    words.push_str(person.name.as_str())?;
+    if let Some(given) = &person.given_name {
+        words.push_str(", ")?;
+        words.push_str(given.as_str())?;
+    }
+    Ok(words.push('"')?)
+}
+
+/// Appends what the word of a meta leaves out.
+fn add_whole_meta(words: &mut String, meta: &ElemMeta) -> Result<(), Fault> {
+    match meta {
+        ElemMeta::Entry(place) => write!(words, " {}", *place)?,
+        ElemMeta::Names(lists) => {
+            for (persons, variable) in lists {
+                add_word(words, "(")?;
+                words.push_str(variable.name())?;
+                for person in persons {
+                    add_person(words, person)?;
+                }
+                words.push(')')?;
+            }
+        }
+        _ => {}
+    }
+    Ok(())
+}
+
 #[cycle(tree)]
-fn add_elem(words: &mut String, elem: &Elem) -> Result<(), Fault> {
+fn add_elem(words: &mut String, elem: &Elem, is_whole: bool) -> Result<(), Fault> {
     add_word(words, head_of(&elem.meta))?;
-    if let Some(ElemMeta::Name(_, place)) = &elem.meta {
-        write!(words, " {}", *place)?;
+    match &elem.meta {
+        Some(ElemMeta::Name(_, place)) => write!(words, " {}", *place)?,
+        Some(meta) if is_whole => add_whole_meta(words, meta)?,
+        _ => {}
     }
     if let Some(display) = elem.display {
         add_attribute(words, "display", display.name())?;
     }
-    add_tree(words, &elem.children)?;
+    add_children(words, &elem.children, is_whole)?;
     Ok(words.push(')')?)
 }
 
 /// Appends a content.
-#[cycle(tree)]
 pub fn add_tree(words: &mut String, children: &ElemChildren) -> Result<(), Fault> {
+    add_children(words, children, false)
+}
+
+/// Appends a content. If it `is_whole`, no part of a meta is left out.
+#[cycle(tree)]
+pub fn add_children(
+    words: &mut String,
+    children: &ElemChildren,
+    is_whole: bool,
+) -> Result<(), Fault> {
     for child in &children.0 {
         match child {
             ElemChild::Text(text) => add_text(words, text)?,
-            ElemChild::Elem(elem) => add_elem(words, elem)?,
+            ElemChild::Elem(elem) => add_elem(words, elem, is_whole)?,
             ElemChild::Link { text, url } => add_link(words, text, url.as_str())?,
             ElemChild::Markup(markup) => {
                 add_word(words, "(math")?;
@@ -121,18 +165,28 @@ pub fn add_tree(words: &mut String, children: &ElemChildren) -> Result<(), Fault
     Ok(())
 }
 
+/// Appends an attribute. Its value is in quotes, unless it is one word.
+pub fn add_value(words: &mut String, name: &str, value: &str) -> Result<(), Fault> {
+    if !value.is_empty() && value.split(' ').nth(1).is_none() {
+        return add_attribute(words, name, value);
+    }
+    begin_words(words, name)?;
+    words.push_str(value)?;
+    Ok(words.push('"')?)
+}
+
 /// Begins an attribute whose value is words in quotes.
 fn begin_words(words: &mut String, name: &str) -> Result<(), Fault> {
     add_word(words, name)?;
     Ok(words.push_str("=\"")?)
 }
 
-/// Appends the name of a variable to the value of such an attribute.
-fn add_variable(words: &mut String, variable: Variable) -> Result<(), Fault> {
+/// Appends a word to the value of such an attribute.
+fn add_word_of_value(words: &mut String, word: &str) -> Result<(), Fault> {
     if !words.as_str().ends_with('"') {
         words.push(' ')?;
     }
-    Ok(words.push_str(variable.name())?)
+    Ok(words.push_str(word)?)
 }
 
 /// Appends forms of names.
@@ -141,7 +195,7 @@ fn add_shown(words: &mut String, names: &NameDisambiguationProperties) -> Result
     add_attribute(words, "default", names.default_name_form().name())?;
     begin_words(words, "of")?;
     for variable in names.variables() {
-        add_variable(words, Variable::Name(*variable))?;
+        add_word_of_value(words, variable.name())?;
     }
     words.push('"')?;
     for list in names.name_forms() {
@@ -159,7 +213,7 @@ pub fn add_state(words: &mut String, state: &LeftState) -> Result<(), Fault> {
     if !state.suppressed.is_empty() {
         begin_words(words, "suppressed")?;
         for variable in &state.suppressed {
-            add_variable(words, *variable)?;
+            add_word_of_value(words, variable.name())?;
         }
         words.push('"')?;
     }

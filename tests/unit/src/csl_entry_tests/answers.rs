@@ -1,9 +1,8 @@
-//! Answers of an entry as text.
+//! Answers of a cite as text.
 
 use crate::assertions::assert_of;
-use csl_elements::{DateVariable, NameVariable, NumberVariable, PageVariable, StandardVariable};
-use csl_entry::{EntryLike, NumberVariableResult};
-use lit_model::{ChunkKind, ChunkedString, LongShortForm, MaybeTyped, Numeric, PageRanges, Person};
+use csl_entry::NumberVariableResult;
+use lit_model::{ChunkKind, ChunkedString, MaybeTyped, Numeric, Person};
 use std::alloc::Global;
 use std::borrow::Cow;
 use std::process::Abort;
@@ -83,19 +82,6 @@ pub fn only<'t, T>(rt: &impl Abort, list: &'t [T]) -> &'t T {
     }
 }
 
-/// The pages as text, or `'` and the text if they are not pages, or `none` if there is no answer.
-pub fn pages_text(
-    rt: &impl Abort,
-    alloc: Global,
-    found: Option<&MaybeTyped<PageRanges>>,
-) -> String {
-    match found {
-        None => String::from_str(alloc, "none").expect(rt, "memory"),
-        Some(MaybeTyped::Typed(pages)) => pages.to_string(alloc).expect(rt, "memory"),
-        Some(MaybeTyped::String(text)) => format!(in alloc; "'{text}").expect(rt, "memory"),
-    }
-}
-
 /// The names of these persons, with a space after each.
 pub fn names_text(rt: &impl Abort, alloc: Global, persons: &[Cow<'_, Person>]) -> String {
     let mut names = String::new(alloc);
@@ -105,69 +91,4 @@ pub fn names_text(rt: &impl Abort, alloc: Global, persons: &[Cow<'_, Person>]) -
         names.push(' ').expect(rt, "memory");
     }
     names
-}
-
-/// The number that an entry answers.
-pub fn number<T: EntryLike>(
-    rt: &impl Abort,
-    alloc: Global,
-    entry: &T,
-    variable: NumberVariable,
-) -> String {
-    let found = entry
-        .resolve_number_variable(alloc, variable)
-        .expect(rt, "memory");
-    let number = number_text(rt, alloc, found.as_ref());
-    drop(found);
-    number
-}
-
-/// The pages that an entry answers.
-pub fn pages<T: EntryLike>(rt: &impl Abort, alloc: Global, entry: &T) -> String {
-    let found = entry
-        .resolve_page_variable(alloc, PageVariable::Page)
-        .expect(rt, "memory");
-    pages_text(rt, alloc, found.as_ref())
-}
-
-/// The text that an entry answers, with the marks of its chunks.
-pub fn text<T: EntryLike>(
-    rt: &impl Abort,
-    alloc: Global,
-    entry: &T,
-    form: LongShortForm,
-    variable: StandardVariable,
-) -> String {
-    let found = entry
-        .resolve_standard_variable(alloc, form, variable)
-        .expect(rt, "memory");
-    let text = chunks_text(rt, alloc, value(&found));
-    drop(found);
-    text
-}
-
-/// The names that an entry answers.
-pub fn names<T: EntryLike>(
-    rt: &impl Abort,
-    alloc: Global,
-    entry: &T,
-    variable: NameVariable,
-) -> String {
-    let persons = entry
-        .resolve_name_variable(alloc, variable)
-        .expect(rt, "memory");
-    names_text(rt, alloc, &persons)
-}
-
-/// The year of the date that an entry answers.
-pub fn year<T: EntryLike>(
-    rt: &impl Abort,
-    alloc: Global,
-    entry: &T,
-    variable: DateVariable,
-) -> Option<i32> {
-    let date = entry
-        .resolve_date_variable(alloc, variable)
-        .expect(rt, "memory");
-    value(&date).map(|date| date.year())
 }

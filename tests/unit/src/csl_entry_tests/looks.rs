@@ -1,19 +1,16 @@
-//! The answers of a cite to a lookup, and whether two entries answer the same.
+//! The answers of a cite to a lookup.
 
 use crate::assertions::assert_of;
-use crate::csl_entry_tests::answers::{assert_answer, names_text, only, result_text, value};
-use crate::csl_entry_tests::descriptions::entries;
+use crate::csl_entry_tests::answers::{names_text, result_text, value};
 use crate::csl_entry_tests::instance::properties;
-use crate::csl_entry_tests::looks::Answer::{Authors, Issued, Pages, Title, Volume};
+use crate::shared::{alone, put};
 use csl_elements::{
     DateVariable, NameVariable, NumberOrPageVariable, NumberVariable, PageVariable,
-    StandardVariable,
 };
 use csl_entry::{
-    CiteProperties, DisambiguateState, EntryLike, InstanceContext, LocatorPayload,
-    NumberOrPageVariableResult, same_date, same_number, same_pages, same_people, same_text,
+    CiteProperties, DisambiguateState, InstanceContext, LocatorPayload, NumberOrPageVariableResult,
 };
-use lit_model::{Entry, LongShortForm, MaybeTyped};
+use lit_model::{Date, Entry, EntryType, MaybeTyped, Numeric, PageRanges, Person};
 use std::alloc::Global;
 use std::process::Abort;
 
@@ -92,12 +89,12 @@ fn year(
 fn answer_in<'s>(
     rt: &impl Abort,
     alloc: Global,
-    entries: &'s [Entry],
+    entry: &'s Entry,
     cite_props: &'s CiteProperties<'s>,
     lookup: Lookup,
 ) -> String {
     let cite = InstanceContext {
-        entry: only(rt, entries),
+        entry,
         cite_props,
         sorting: None,
         kind: None,
@@ -110,22 +107,60 @@ fn answer_in<'s>(
 }
 
 /// The answer of a cite whose locator the caller writes.
-fn cite_answer(rt: &impl Abort, alloc: Global, description: &str, lookup: Lookup) -> String {
-    let entries = entries(rt, alloc, description);
+fn cite_answer(rt: &impl Abort, alloc: Global, entry: &Entry, lookup: Lookup) -> String {
     let props = properties(
         rt,
         None,
         Some(LocatorPayload::Transparent),
         DisambiguateState::None,
     );
-    let found = answer_in(rt, alloc, &entries, &props, lookup);
+    let found = answer_in(rt, alloc, entry, &props, lookup);
     drop(props);
     found
 }
 
-const BOOK: &str = "book; authors Ann, Ben; date 2014; volume 3; pages 7-9; title Nature";
+/// A book of nothing but a type, one with an answer of each sort, and one whose volume and pages are
+/// texts.
+#[derive(Clone, Copy, Debug)]
+enum Work {
+    Bare,
+    Book,
+    Pamphlet,
+}
 
-const PAMPHLET: &str = "book; volume 'third; pages 'passim";
+fn bare(rt: &impl Abort, alloc: Global) -> Entry {
+    Entry::new(alloc, "key", EntryType::Book).expect(rt, "memory")
+}
+
+fn book(rt: &impl Abort, alloc: Global) -> Entry {
+    let ann = Person::institution(alloc, "Ann").expect(rt, "memory");
+    let mut authors = alone(rt, alloc, ann);
+    let ben = Person::institution(alloc, "Ben").expect(rt, "memory");
+    put(rt, &mut authors, ben);
+    let pages = PageRanges::parse(alloc, "7-9").expect(rt, "pages");
+    Entry::titled(alloc, "key", EntryType::Book, "Nature")
+        .expect(rt, "memory")
+        .with_authors(authors)
+        .with_date(Date::of_year(2014))
+        .with_volume(MaybeTyped::Typed(Numeric::new(3)))
+        .with_page_range(MaybeTyped::Typed(pages))
+}
+
+fn pamphlet(rt: &impl Abort, alloc: Global) -> Entry {
+    let volume = String::from_str(alloc, "third").expect(rt, "memory");
+    let pages = String::from_str(alloc, "passim").expect(rt, "memory");
+    bare(rt, alloc)
+        .with_volume(MaybeTyped::String(volume))
+        .with_page_range(MaybeTyped::String(pages))
+}
+
+fn entry(rt: &impl Abort, alloc: Global, work: Work) -> Entry {
+    match work {
+        Work::Bare => bare(rt, alloc),
+        Work::Book => book(rt, alloc),
+        Work::Pamphlet => pamphlet(rt, alloc),
+    }
+}
 
 const VOLUME: Lookup = Lookup::Number(NumberOrPageVariable::Number(NumberVariable::Volume));
 
@@ -138,179 +173,35 @@ const CITATION: Lookup = Lookup::Number(NumberOrPageVariable::Number(
 ));
 
 /// An entry, a lookup in its cite, and the answer of the cite.
-static ANSWERS: [(&str, Lookup, &str); 12] = [
-    (BOOK, VOLUME, "3"),
-    (PAMPHLET, VOLUME, "'third"),
-    ("book", VOLUME, "none"),
-    (BOOK, LOCATOR, "@2"),
-    (BOOK, CITATION, "5"),
-    (BOOK, PAGE, "p7-9"),
-    (PAMPHLET, PAGE, "'passim"),
-    ("book", PAGE, "none"),
-    (BOOK, Lookup::Names(NameVariable::Author), "Ann Ben "),
-    (BOOK, Lookup::Names(NameVariable::Editor), ""),
-    (BOOK, Lookup::Year(DateVariable::Issued), "2014"),
-    (BOOK, Lookup::Year(DateVariable::Accessed), "none"),
+static ANSWERS: [(Work, Lookup, &str); 12] = [
+    (Work::Book, VOLUME, "3"),
+    (Work::Pamphlet, VOLUME, "'third"),
+    (Work::Bare, VOLUME, "none"),
+    (Work::Book, LOCATOR, "@2"),
+    (Work::Book, CITATION, "5"),
+    (Work::Book, PAGE, "p7-9"),
+    (Work::Pamphlet, PAGE, "'passim"),
+    (Work::Bare, PAGE, "none"),
+    (Work::Book, Lookup::Names(NameVariable::Author), "Ann Ben "),
+    (Work::Book, Lookup::Names(NameVariable::Editor), ""),
+    (Work::Book, Lookup::Year(DateVariable::Issued), "2014"),
+    (Work::Book, Lookup::Year(DateVariable::Accessed), "none"),
 ];
 
 fn assert_lookup(
     rt: &impl Abort,
     alloc: Global,
-    &(description, lookup, wanted): &(&'static str, Lookup, &'static str),
+    &(work, lookup, wanted): &(Work, Lookup, &'static str),
 ) {
-    let found = cite_answer(rt, alloc, description, lookup);
-    assert_answer(rt, found.as_str(), wanted, description);
+    let entry = entry(rt, alloc, work);
+    let found = cite_answer(rt, alloc, &entry, lookup);
+    assert_of(rt, &found.as_str(), &wanted, &work);
 }
 
 #[test]
 fn answers_of_a_cite(rt: HostRuntime) {
-    let answers: &[(&'static str, Lookup, &'static str)] = &ANSWERS;
+    let answers: &[(Work, Lookup, &'static str)] = &ANSWERS;
     for row in answers {
         assert_lookup(&rt, rt.alloc(), row);
-    }
-}
-
-/// The answer that is compared for two entries.
-#[derive(Clone, Copy)]
-enum Answer {
-    Authors,
-    Title,
-    Volume,
-    Pages,
-    Issued,
-}
-
-fn same_authors(rt: &impl Abort, alloc: Global, left: &Entry, right: &Entry) -> bool {
-    let authors = left
-        .resolve_name_variable(alloc, NameVariable::Author)
-        .expect(rt, "memory");
-    let others = right
-        .resolve_name_variable(alloc, NameVariable::Author)
-        .expect(rt, "memory");
-    same_people(&authors, &others)
-}
-
-fn same_title(rt: &impl Abort, alloc: Global, left: &Entry, right: &Entry) -> bool {
-    let form = LongShortForm::Long;
-    let title = left
-        .resolve_standard_variable(alloc, form, StandardVariable::Title)
-        .expect(rt, "memory");
-    let other = right
-        .resolve_standard_variable(alloc, form, StandardVariable::Title)
-        .expect(rt, "memory");
-    same_text(&title, &other)
-}
-
-fn same_volume(rt: &impl Abort, alloc: Global, left: &Entry, right: &Entry) -> bool {
-    let volume = left
-        .resolve_number_variable(alloc, NumberVariable::Volume)
-        .expect(rt, "memory");
-    let other = right
-        .resolve_number_variable(alloc, NumberVariable::Volume)
-        .expect(rt, "memory");
-    let same = same_number(&volume, &other);
-    drop(volume);
-    drop(other);
-    same
-}
-
-fn same_page_range(rt: &impl Abort, alloc: Global, left: &Entry, right: &Entry) -> bool {
-    let pages = left
-        .resolve_page_variable(alloc, PageVariable::Page)
-        .expect(rt, "memory");
-    let others = right
-        .resolve_page_variable(alloc, PageVariable::Page)
-        .expect(rt, "memory");
-    same_pages(&pages, &others)
-}
-
-fn same_issued(rt: &impl Abort, alloc: Global, left: &Entry, right: &Entry) -> bool {
-    let date = left
-        .resolve_date_variable(alloc, DateVariable::Issued)
-        .expect(rt, "memory");
-    let other = right
-        .resolve_date_variable(alloc, DateVariable::Issued)
-        .expect(rt, "memory");
-    same_date(&date, &other)
-}
-
-fn same_in(
-    rt: &impl Abort,
-    alloc: Global,
-    left: &[Entry],
-    right: &[Entry],
-    answer: Answer,
-) -> bool {
-    let (left, right) = (only(rt, left), only(rt, right));
-    match answer {
-        Answer::Authors => same_authors(rt, alloc, left, right),
-        Answer::Title => same_title(rt, alloc, left, right),
-        Answer::Volume => same_volume(rt, alloc, left, right),
-        Answer::Pages => same_page_range(rt, alloc, left, right),
-        Answer::Issued => same_issued(rt, alloc, left, right),
-    }
-}
-
-fn same(rt: &impl Abort, alloc: Global, left: &str, right: &str, answer: Answer) -> bool {
-    let left = entries(rt, alloc, left);
-    let right = entries(rt, alloc, right);
-    same_in(rt, alloc, &left, &right, answer)
-}
-
-/// Two entries, the compared answer, and whether it is the same.
-type PairRow = (&'static str, &'static str, Answer, bool);
-
-static PAIRS: [PairRow; 19] = [
-    (
-        "book; authors Ann, Ben/B",
-        "web; authors Ann, Ben/B",
-        Authors,
-        true,
-    ),
-    (
-        "book; authors Ann, Ben",
-        "book; authors Ben, Ann",
-        Authors,
-        false,
-    ),
-    (
-        "book; authors Ann, Ben/B",
-        "book; authors Ann, Ben",
-        Authors,
-        false,
-    ),
-    (
-        "book; authors Ann",
-        "book; authors Ann, Ben",
-        Authors,
-        false,
-    ),
-    ("book", "book; authors", Authors, true),
-    ("book; title A+$b", "book; title A+$b|A", Title, true),
-    ("book; title A+$b", "book; title A+b", Title, false),
-    ("book; title A", "book", Title, false),
-    ("book", "book", Title, true),
-    ("book; volume 3", "book; volume 3", Volume, true),
-    ("book; volume 3", "book; volume '3", Volume, false),
-    ("book; volume 3", "book", Volume, false),
-    ("book; pages 7-9", "book; pages 7-9", Pages, true),
-    ("book; pages 7-9", "book; pages 7,9", Pages, false),
-    ("book; pages 7", "book; pages '7", Pages, false),
-    ("book; date 2014", "book; date 2014; title A", Issued, true),
-    ("book; date 2014", "book; date 2015", Issued, false),
-    ("book; date 2014", "book", Issued, false),
-    ("book", "book", Issued, true),
-];
-
-fn assert_same(rt: &impl Abort, alloc: Global, &(left, right, answer, wanted): &PairRow) {
-    let same = same(rt, alloc, left, right, answer);
-    assert_of(rt, &same, &wanted, &(left, right));
-}
-
-#[test]
-fn answers_of_two_entries_compared(rt: HostRuntime) {
-    let pairs: &[PairRow] = &PAIRS;
-    for row in pairs {
-        assert_same(&rt, rt.alloc(), row);
     }
 }

@@ -1,12 +1,22 @@
 //! Nodes that hold nodes.
 
 use crate::assertions::assert_same;
-use crate::csl_style_tests::notation::{branch, group, nested_nodes};
-use crate::shared::put;
-use csl_style::{Choose, ChooseMatch, LayoutRenderingElement};
+use crate::shared::{alone, put};
+use csl_style::{
+    Choose, ChooseBranch, ChooseMatch, Group, LayoutRenderingElement, NameVariable, Names,
+    NamesChild, Substitute, Text,
+};
 use std::alloc::Global;
 use std::mem::swap;
 use std::process::Abort;
+
+/// A branch with this match and without nodes.
+fn branch(alloc: Global, match_: ChooseMatch) -> ChooseBranch {
+    ChooseBranch {
+        match_,
+        ..ChooseBranch::new(Vec::new(alloc))
+    }
+}
 
 /// A choose whose branches have these matches.
 fn new_choose(
@@ -17,10 +27,10 @@ fn new_choose(
 ) -> Choose {
     let mut else_if = Vec::new(alloc);
     for match_ in others {
-        put(rt, &mut else_if, branch(*match_, None, Vec::new(alloc)));
+        put(rt, &mut else_if, branch(alloc, *match_));
     }
     Choose {
-        if_: branch(first, None, Vec::new(alloc)),
+        if_: branch(alloc, first),
         else_if,
         otherwise: None,
     }
@@ -73,9 +83,78 @@ static NESTED: [&'static str; 6] = [
     "group if else-if else substitute",
 ];
 
+/// A choose whose first branch is empty.
+fn empty_choose(alloc: Global) -> Choose {
+    Choose::new(alloc, branch(alloc, ChooseMatch::All))
+}
+
+/// Names of authors, with these nodes as a substitute.
+fn names_or(
+    rt: &impl Abort,
+    alloc: Global,
+    children: Vec<LayoutRenderingElement>,
+) -> LayoutRenderingElement {
+    let substitute = NamesChild::Substitute(Substitute { children });
+    let names = Names {
+        children: alone(rt, alloc, substitute),
+        ..Names::new(alloc, alone(rt, alloc, NameVariable::Author))
+    };
+    names.into()
+}
+
+/// The node that a word puts around others.
+fn node_around(
+    rt: &impl Abort,
+    alloc: Global,
+    word: &str,
+    children: Vec<LayoutRenderingElement>,
+) -> LayoutRenderingElement {
+    match word {
+        "if" => Choose::new(alloc, ChooseBranch::new(children)).into(),
+        "else-if" => {
+            let choose = Choose {
+                else_if: alone(rt, alloc, ChooseBranch::new(children)),
+                ..empty_choose(alloc)
+            };
+            choose.into()
+        }
+        "else" => {
+            let choose = Choose {
+                otherwise: Some(children),
+                ..empty_choose(alloc)
+            };
+            choose.into()
+        }
+        "substitute" => names_or(rt, alloc, children),
+        _ => Group::new(children).into(),
+    }
+}
+
+/// Nested nodes: `times` times the nodes that the words put around each other, from the outside in.
+/// At each time these texts stand beside the nested nodes.
+fn nested_nodes(
+    rt: &impl Abort,
+    alloc: Global,
+    words: &str,
+    times: usize,
+    texts: &[&str],
+) -> Vec<LayoutRenderingElement> {
+    let mut nodes = Vec::new(alloc);
+    for _ in 0..times {
+        for word in words.rsplit(' ') {
+            nodes = alone(rt, alloc, node_around(rt, alloc, word, nodes));
+        }
+        for text in texts {
+            let text = Text::value(alloc, *text).expect(rt, "memory");
+            put(rt, &mut nodes, text.into());
+        }
+    }
+    nodes
+}
+
 /// Asserts that nested nodes drop, with `count` nodes at each time.
-fn assert_drop(rt: &impl Abort, alloc: Global, (words, others): (&str, &str), count: usize) {
-    let nodes = nested_nodes(rt, alloc, words, TIMES, others);
+fn assert_drop(rt: &impl Abort, alloc: Global, words: &str, texts: &[&str], count: usize) {
+    let nodes = nested_nodes(rt, alloc, words, TIMES, texts);
     let answer = nodes.len();
     drop(nodes);
     assert_same(rt, &answer, &count);
@@ -84,14 +163,14 @@ fn assert_drop(rt: &impl Abort, alloc: Global, (words, others): (&str, &str), co
 #[test]
 fn deeply_nested_nodes_drop(rt: HostRuntime) {
     for words in &NESTED {
-        assert_drop(&rt, rt.alloc(), (*words, ""), 1);
+        assert_drop(&rt, rt.alloc(), *words, &[], 1);
     }
 }
 
 #[test]
 fn deeply_nested_nodes_with_others_beside_them_drop(rt: HostRuntime) {
     for words in &NESTED {
-        assert_drop(&rt, rt.alloc(), (*words, "'a 'b"), 3);
+        assert_drop(&rt, rt.alloc(), *words, &["a", "b"], 3);
     }
 }
 
@@ -107,7 +186,13 @@ fn take_children(alloc: Global, node: &mut LayoutRenderingElement) -> Vec<Layout
 #[test]
 fn a_group_is_taken_apart_through_a_reference(rt: HostRuntime) {
     let alloc = rt.alloc();
-    let mut node = group(nested_nodes(&rt, alloc, "if", 1, "'a"));
+    let mut node: LayoutRenderingElement = Group::new(nested_nodes(
+        &rt,
+        alloc,
+        "if",
+        1,
+        &["a"],
+    )).into();
     let first = take_children(alloc, &mut node).len();
     let again = take_children(alloc, &mut node).len();
     drop(node);

@@ -1,7 +1,7 @@
 //! Lookups in the locales of a style, in order.
 
 use crate::assertions::{assert_same, assert_text};
-use crate::csl_style_tests::notation::{EMPTY, LocaleRows, SILENT, StyleRows, locales, style};
+use crate::csl_style_tests::locale_rows::{LocaleRows, SILENT, locales, style_of};
 use csl_laws::locale::same_slot;
 use csl_style::{
     Date, DateForm, DateParts, LocaleOrdinals, Locator, NumberVariable, OrdinalMatch, OrdinalSlot,
@@ -186,32 +186,29 @@ fn ordinals_by_gender_and_digits(rt: HostRuntime) {
 }
 
 /// Terms in two locales. Some are there twice, in one locale or in both.
-const TERMS: StyleRows<'static> = StyleRows {
-    locales: &[
-        LocaleRows {
-            terms: &[
-                (AND, TermForm::Long, "and", None, None),
-                (VOLUME, TermForm::Long, "volume", None, None),
-                (AND, TermForm::Long, "as well as", None, None),
-                (ISSUE, TermForm::Symbol, "#", None, None),
-            ],
-            ..SILENT
-        },
-        LocaleRows {
-            terms: &[
-                (VOLUME, TermForm::Short, "vol.", None, None),
-                (VOLUME, TermForm::Long, "tome", None, None),
-                (PAGE, TermForm::Verb, "page", Some("pages"), None),
-                (PAGE, TermForm::Verb, "leaf", Some("leaves"), None),
-                (ISSUE, TermForm::Symbol, "no.", None, None),
-                (ISSUE, TermForm::Verb, "issued", None, None),
-                (ISSUE, TermForm::VerbShort, "iss.", None, None),
-            ],
-            ..SILENT
-        },
-    ],
-    ..EMPTY
-};
+const TERMS: &[LocaleRows<'static>] = &[
+    LocaleRows {
+        terms: &[
+            (AND, TermForm::Long, "and", None, None),
+            (VOLUME, TermForm::Long, "volume", None, None),
+            (AND, TermForm::Long, "as well as", None, None),
+            (ISSUE, TermForm::Symbol, "#", None, None),
+        ],
+        ..SILENT
+    },
+    LocaleRows {
+        terms: &[
+            (VOLUME, TermForm::Short, "vol.", None, None),
+            (VOLUME, TermForm::Long, "tome", None, None),
+            (PAGE, TermForm::Verb, "page", Some("pages"), None),
+            (PAGE, TermForm::Verb, "leaf", Some("leaves"), None),
+            (ISSUE, TermForm::Symbol, "no.", None, None),
+            (ISSUE, TermForm::Verb, "issued", None, None),
+            (ISSUE, TermForm::VerbShort, "iss.", None, None),
+        ],
+        ..SILENT
+    },
+];
 
 /// A term, its form, whether it is in the plural, and the text.
 type TextRow = (Term, TermForm, bool, Option<&'static str>);
@@ -243,43 +240,40 @@ fn assert_terms(rt: &impl Abort, style: &Style) {
 }
 
 fn assert_texts(rt: &impl Abort, alloc: Global) {
-    let style = style(rt, alloc, &TERMS);
+    let style = style_of(rt, alloc, TERMS);
     assert_terms(rt, &style);
     drop(style);
 }
 
 /// Terms with genders and localized dates, in two locales.
-const LOCALES: StyleRows<'static> = StyleRows {
-    locales: &[
-        LocaleRows {
-            terms: &[
-                (VOLUME, TermForm::Short, "vol.", None, FEMININE),
-                (VOLUME, TermForm::Long, "volume", None, None),
-                (ISSUE, TermForm::Long, "issue", None, FEMININE),
-                (PAGE, TermForm::Short, "p.", None, FEMININE),
-            ],
-            dates: &[(DateForm::Text, DateParts::Year)],
-            ..SILENT
-        },
-        LocaleRows {
-            terms: &[
-                (VOLUME, TermForm::Long, "volume", None, MASCULINE),
-                (VOLUME, TermForm::Long, "tome", None, FEMININE),
-                (ISSUE, TermForm::Long, "number", None, MASCULINE),
-            ],
-            dates: &[
-                (DateForm::Numeric, DateParts::YearMonth),
-                (DateForm::Numeric, DateParts::Year),
-            ],
-            ..SILENT
-        },
-    ],
-    ..EMPTY
-};
+const LOCALES: &[LocaleRows<'static>] = &[
+    LocaleRows {
+        terms: &[
+            (VOLUME, TermForm::Short, "vol.", None, FEMININE),
+            (VOLUME, TermForm::Long, "volume", None, None),
+            (ISSUE, TermForm::Long, "issue", None, FEMININE),
+            (PAGE, TermForm::Short, "p.", None, FEMININE),
+        ],
+        dates: &[(DateForm::Text, DateParts::Year)],
+        ..SILENT
+    },
+    LocaleRows {
+        terms: &[
+            (VOLUME, TermForm::Long, "volume", None, MASCULINE),
+            (VOLUME, TermForm::Long, "tome", None, FEMININE),
+            (ISSUE, TermForm::Long, "number", None, MASCULINE),
+        ],
+        dates: &[
+            (DateForm::Numeric, DateParts::YearMonth),
+            (DateForm::Numeric, DateParts::Year),
+        ],
+        ..SILENT
+    },
+];
 
-/// A style, a term, a form of dates, the gender of the term, and the parts of the date.
+/// Locales, a term, a form of dates, the gender of the term, and the parts of the date.
 type GenderRow = (
-    &'static StyleRows<'static>,
+    &'static [LocaleRows<'static>],
     Term,
     DateForm,
     Option<GrammarGender>,
@@ -288,22 +282,22 @@ type GenderRow = (
 
 static GENDERS: [GenderRow; 5] = [
     (
-        &LOCALES,
+        LOCALES,
         VOLUME,
         DateForm::Numeric,
         MASCULINE,
         Some(DateParts::YearMonth),
     ),
-    (&LOCALES, AND, DateForm::Text, None, Some(DateParts::Year)),
+    (LOCALES, AND, DateForm::Text, None, Some(DateParts::Year)),
     (
-        &LOCALES,
+        LOCALES,
         ISSUE,
         DateForm::Text,
         FEMININE,
         Some(DateParts::Year),
     ),
-    (&LOCALES, PAGE, DateForm::Text, None, Some(DateParts::Year)),
-    (&EMPTY, AND, DateForm::Text, None, None),
+    (LOCALES, PAGE, DateForm::Text, None, Some(DateParts::Year)),
+    (&[], AND, DateForm::Text, None, None),
 ];
 
 fn parts_of(date: Option<&Date>) -> Option<DateParts> {
@@ -328,7 +322,7 @@ fn assert_gender_and_date(
 }
 
 fn assert_genders(rt: &impl Abort, alloc: Global, row: &GenderRow) {
-    let style = style(rt, alloc, row.0);
+    let style = style_of(rt, alloc, row.0);
     assert_gender_and_date(rt, &style, row);
     drop(style);
 }

@@ -1,9 +1,8 @@
 //! Styles of many macros, which are found by other means than those of a few.
 
 use crate::assertions::assert_of;
-use crate::csl_style_tests::notation::{layout_of, text};
 use crate::shared::{alone, put};
-use csl_style::{CslMacro, LayoutRenderingElement, Style, StyleSettings, TextTarget};
+use csl_style::{CslMacro, Layout, LayoutRenderingElement, Style, StyleSettings, Text, TextTarget};
 use std::alloc::Global;
 use std::process::Abort;
 
@@ -12,7 +11,7 @@ const MANY: usize = 300;
 
 fn call(rt: &impl Abort, alloc: Global, number: usize) -> LayoutRenderingElement {
     let name = format!(in alloc; "{}", number).expect(rt, "memory");
-    text(TextTarget::Macro { name })
+    Text::new(TextTarget::Macro { name }).into()
 }
 
 fn macro_of_number(
@@ -44,7 +43,7 @@ fn chain(rt: &impl Abort, alloc: Global) -> Vec<CslMacro> {
 /// A style of the chain, whose layout calls the first macro.
 fn style_of_chain(rt: &impl Abort, alloc: Global) -> Style {
     let macros = chain(rt, alloc);
-    let citation = layout_of(alone(rt, alloc, call(rt, alloc, 0)));
+    let citation = Layout::new(alone(rt, alloc, call(rt, alloc, 0)));
     let settings = StyleSettings::default();
     Style::new(alloc, settings, macros, citation, None, Vec::new(alloc)).expect(rt, "a style")
 }

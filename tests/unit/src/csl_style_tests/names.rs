@@ -1,7 +1,7 @@
 //! The options of names.
 
 use crate::assertions::{assert_same, assert_text};
-use crate::csl_style_tests::notation::copy_text;
+use crate::csl_style_tests::locale_rows::copy_text;
 use csl_style::{
     DelimiterBehavior, InheritableNameOptions, InheritedNameOptions, NameForm, NameOptions,
 };

@@ -1,7 +1,7 @@
 //! The parts of names: those of a node, and those of a node in the place of another.
 
 use crate::assertions::{assert_same, assert_text};
-use crate::csl_style_tests::notation::copy_text;
+use crate::csl_style_tests::locale_rows::copy_text;
 use crate::shared::put;
 use csl_style::{
     Affixes, Display, EtAl, FontStyle, Formatting, InheritableNameOptions, Name, NameForm,

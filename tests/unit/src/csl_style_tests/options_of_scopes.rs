@@ -1,10 +1,8 @@
 //! The name options of a scope, and the options of the first locale.
 
 use crate::assertions::{assert_same, assert_text};
-use crate::csl_style_tests::notation::{
-    EMPTY, LocaleRows, SILENT, StyleRows, copy_text, layout_of, style,
-};
-use csl_style::{InheritableNameOptions, NameForm, Scope, Style, StyleSettings};
+use crate::csl_style_tests::locale_rows::{LocaleRows, SILENT, copy_text, style_of};
+use csl_style::{InheritableNameOptions, Layout, NameForm, Scope, Style, StyleSettings};
 use std::alloc::Global;
 use std::process::Abort;
 
@@ -61,13 +59,13 @@ fn settings(rt: &impl Abort, alloc: Global, levels: &Levels) -> StyleSettings {
 }
 
 /// A style with these levels.
-fn style_of(rt: &impl Abort, alloc: Global, levels: &Levels) -> Style {
+fn style_of_levels(rt: &impl Abort, alloc: Global, levels: &Levels) -> Style {
     let settings = settings(rt, alloc, levels);
     Style::new(
         alloc,
         settings,
         Vec::new(alloc),
-        layout_of(Vec::new(alloc)),
+        Layout::new(Vec::new(alloc)),
         None,
         Vec::new(alloc),
     )
@@ -106,7 +104,7 @@ fn assert_inherited(rt: &impl Abort, style: &Style, scope: Scope, wanted: &Inher
 }
 
 fn assert_scope(rt: &impl Abort, alloc: Global, (scope, levels, wanted): &ScopeRow) {
-    let style = style_of(rt, alloc, levels);
+    let style = style_of_levels(rt, alloc, levels);
     assert_inherited(rt, &style, *scope, wanted);
     drop(style);
 }
@@ -148,11 +146,7 @@ static LOCALES: [LocaleRow; 4] = [
 ];
 
 fn assert_by_locales(rt: &impl Abort, alloc: Global, (locales, quotes, days): &LocaleRow) {
-    let rows = StyleRows {
-        locales: *locales,
-        ..EMPTY
-    };
-    let style = style(rt, alloc, &rows);
+    let style = style_of(rt, alloc, *locales);
     assert_same(rt, &style.is_punctuation_in_quote(), quotes);
     assert_same(rt, &style.are_day_ordinals_limited(), days);
     drop(style);

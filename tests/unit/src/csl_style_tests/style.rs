@@ -1,95 +1,53 @@
-//! Styles: which are rejected, and the parts that they return.
+//! The parts that a style returns, and its searches in its locales.
 
 use crate::assertions::{assert_same, assert_text};
-use crate::csl_style_tests::notation::{
-    EMPTY, LocaleRows, SILENT, StyleRows, style, style_or_error,
-};
+use crate::csl_style_tests::locale_rows::{LocaleRows, SILENT, locales, style_of};
+use crate::shared::{alone, put};
 use csl_style::{
     CslMacro, DateForm, Layout, LayoutRenderingElement, OrdinalSlot, OtherTerm, PageRangeFormat,
-    Scope, Style, Term, TermForm, TextTarget,
+    Scope, Style, StyleSettings, Term, TermForm, Text, TextTarget,
 };
 use lit_model::GrammarGender;
 use std::alloc::Global;
 use std::process::Abort;
 
-/// The error of a style as text, if the style is rejected.
-fn refusal(
-    rt: &impl Abort,
-    alloc: Global,
-    format: Option<PageRangeFormat>,
-    macros: &[&str],
-) -> Option<String> {
-    let rows = StyleRows {
-        format,
-        macros,
-        ..EMPTY
-    };
-    match style_or_error(rt, alloc, &rows).err() {
-        None => None,
-        Some(error) => Some(format!(in alloc; "{}", error).expect(rt, "memory")),
-    }
+/// The node of a text, alone in a list.
+fn text_node(rt: &impl Abort, alloc: Global, text: &str) -> Vec<LayoutRenderingElement> {
+    let text = Text::value(alloc, text).expect(rt, "memory");
+    alone(rt, alloc, text.into())
 }
 
-const S_RETURNS: Option<&str> = Some("the macro 's' leads back to itself");
-
-const A_RETURNS: Option<&str> = Some("the macro 'a' leads back to itself");
-
-const ONE_RETURNS: Option<&str> = Some("the macro '1' leads back to itself");
-
-const TWO_RETURNS: Option<&str> = Some("the macro '2' leads back to itself");
-
-const CHICAGO: Option<&str> = Some("Chicago page formats are not supported");
-
-/// A page format, the lines of the macros, and the error.
-type Refusal = (
-    Option<PageRangeFormat>,
-    &'static [&'static str],
-    Option<&'static str>,
-);
-
-static REFUSALS: [Refusal; 11] = [
-    // The error names a macro that calls itself.
-    (None, &["v 'word", "u absent", "s v s"], S_RETURNS),
-    // The error does not name a macro that only leads to a cycle.
-    (None, &["x a", "a b", "b a"], A_RETURNS),
-    (None, &["0 1", "1 2", "2 1"], ONE_RETURNS),
-    (None, &["0", "1", "2 0 2"], TWO_RETURNS),
-    // A hidden macro makes no cycle, and neither do two ways to the same macro.
-    (None, &["a b", "b 'word", "b a"], None),
-    (None, &["0 1 2", "1 2", "2"], None),
-    // Calls are found in groups, in each branch and in a substitute.
-    (None, &["a b", "b else else-if group a"], A_RETURNS),
-    (
-        Some(PageRangeFormat::Chicago16),
-        &["a if substitute a"],
-        A_RETURNS,
-    ),
-    // Page formats are checked after cycles.
-    (Some(PageRangeFormat::Chicago15), &[], CHICAGO),
-    (Some(PageRangeFormat::Chicago16), &[], CHICAGO),
-    (Some(PageRangeFormat::Minimal), &[], None),
-];
-
-#[test]
-fn cycles_of_macros_and_chicago_pages_are_refused(rt: HostRuntime) {
-    let rows: &[Refusal] = &REFUSALS;
-    for (format, macros, wanted) in rows {
-        let answer = refusal(&rt, rt.alloc(), *format, *macros);
-        assert_text(&rt, answer.as_deref(), *wanted);
+/// Macros of a text each. Some have the same name.
+fn macros(rt: &impl Abort, alloc: Global) -> Vec<CslMacro> {
+    let mut macros = Vec::new(alloc);
+    for (name, text) in [
+        ("a", "first"),
+        ("a", "second"),
+        ("b", "other"),
+        ("b", "hidden"),
+    ] {
+        let name = String::from_str(alloc, name).expect(rt, "memory");
+        let children = text_node(rt, alloc, text);
+        put(rt, &mut macros, CslMacro { name, children });
     }
+    macros
 }
 
 /// A style whose parts can be distinguished.
-const PARTS: StyleRows<'static> = StyleRows {
-    format: Some(PageRangeFormat::MinimalTwo),
-    macros: &["a 'first", "a 'second", "b 'other", "b 'hidden"],
-    citation: "'cite",
-    bibliography: Some("'entry"),
-    locales: &[LocaleRows {
+fn style_of_parts(rt: &impl Abort, alloc: Global) -> Style {
+    let mut settings = StyleSettings::default();
+    settings.page_range_format = Some(PageRangeFormat::MinimalTwo);
+    let citation = Layout::new(text_node(rt, alloc, "cite"));
+    let bibliography = Some(Layout::new(text_node(rt, alloc, "entry")));
+    let quoting = LocaleRows {
         punctuation_in_quote: true,
         ..SILENT
-    }],
-};
+    };
+    let locales = locales(rt, alloc, &[quoting]);
+    let macros = macros(rt, alloc);
+    let style = Style::new(alloc, settings, macros, citation, bibliography, locales);
+    style.expect(rt, "a style")
+}
 
 /// The text of a value, if the target is one.
 fn value(target: &TextTarget) -> Option<&str> {
@@ -140,7 +98,7 @@ fn text_in_part<'s>(style: &'s Style, part: Part<'_>) -> Option<&'s str> {
     }
 }
 
-/// A part of the style `PARTS`, and its text.
+/// A part of the style of parts, and its text.
 static TEXTS: [(Part<'static>, Option<&str>); 8] = [
     (Part::Citation, Some("cite")),
     (Part::Bibliography, Some("entry")),
@@ -159,7 +117,7 @@ fn assert_texts(rt: &impl Abort, style: &Style, rows: &[(Part<'static>, Option<&
     }
 }
 
-/// Asserts that the style `PARTS` returns the parts that it was built from.
+/// Asserts that the style returns the parts that it was built from.
 fn assert_parts(rt: &impl Abort, style: &Style) {
     assert_texts(rt, style, &TEXTS);
     let format = style.settings().page_range_format;
@@ -180,14 +138,11 @@ const BY: Term = Term::Other(OtherTerm::By);
 
 const FEMININE: Option<GrammarGender> = Some(GrammarGender::Feminine);
 
-/// A style with one locale, which has a term and an ordinal.
-const OF_LOCALE: StyleRows<'static> = StyleRows {
-    locales: &[LocaleRows {
-        terms: &[(AND, TermForm::Long, "and", None, FEMININE)],
-        ordinals: &[(OrdinalSlot::Default, None, None, "th")],
-        ..SILENT
-    }],
-    ..EMPTY
+/// A locale with a term and an ordinal.
+const TERM_AND_ORDINAL: LocaleRows<'static> = LocaleRows {
+    terms: &[(AND, TermForm::Long, "and", None, FEMININE)],
+    ordinals: &[(OrdinalSlot::Default, None, None, "th")],
+    ..SILENT
 };
 
 fn assert_locale_is_asked(rt: &impl Abort, style: &Style) {
@@ -201,20 +156,20 @@ fn assert_locale_is_asked(rt: &impl Abort, style: &Style) {
     assert_same(rt, &has_bibliography, &false);
 }
 
-fn assert_style_of_parts(rt: &impl Abort, alloc: Global) {
-    let style = style(rt, alloc, &PARTS);
+fn assert_parts_of_style(rt: &impl Abort, alloc: Global) {
+    let style = style_of_parts(rt, alloc);
     assert_parts(rt, &style);
     drop(style);
 }
 
 fn assert_style_of_locale(rt: &impl Abort, alloc: Global) {
-    let style = style(rt, alloc, &OF_LOCALE);
+    let style = style_of(rt, alloc, &[TERM_AND_ORDINAL]);
     assert_locale_is_asked(rt, &style);
     drop(style);
 }
 
 #[test]
 fn a_style_returns_its_parts_and_searches_its_locales(rt: HostRuntime) {
-    assert_style_of_parts(&rt, rt.alloc());
+    assert_parts_of_style(&rt, rt.alloc());
     assert_style_of_locale(&rt, rt.alloc());
 }

@@ -1,28 +1,25 @@
 //! The ordinals of a style, as a value.
 
 use crate::assertions::assert_text;
-use crate::csl_style_tests::notation::{EMPTY, LocaleRows, SILENT, StyleRows, style};
+use crate::csl_style_tests::locale_rows::{LocaleRows, SILENT, style_of};
 use csl_style::{OrdinalSlot, Style};
 use std::alloc::Global;
 use std::process::Abort;
 
 /// A style with a suffix and a word for 3, and with a default suffix, after a locale without ordinals.
 /// Of two suffixes for the same numbers, the first counts.
-const ROWS: StyleRows<'static> = StyleRows {
-    locales: &[
-        SILENT,
-        LocaleRows {
-            ordinals: &[
-                (OrdinalSlot::Default, None, None, "th"),
-                (OrdinalSlot::Two(3), None, None, "rd"),
-                (OrdinalSlot::Two(3), None, None, "d"),
-                (OrdinalSlot::Long(3), None, None, "third"),
-            ],
-            ..SILENT
-        },
-    ],
-    ..EMPTY
-};
+const ROWS: &[LocaleRows<'static>] = &[
+    SILENT,
+    LocaleRows {
+        ordinals: &[
+            (OrdinalSlot::Default, None, None, "th"),
+            (OrdinalSlot::Two(3), None, None, "rd"),
+            (OrdinalSlot::Two(3), None, None, "d"),
+            (OrdinalSlot::Long(3), None, None, "third"),
+        ],
+        ..SILENT
+    },
+];
 
 /// The suffix and the word of a number, which outlive the ordinals.
 fn both(style: &Style, number: i32) -> (Option<&str>, Option<&str>) {
@@ -53,7 +50,7 @@ fn assert_all(rt: &impl Abort, style: &Style) {
 }
 
 fn assert_style(rt: &impl Abort, alloc: Global) {
-    let style = style(rt, alloc, &ROWS);
+    let style = style_of(rt, alloc, ROWS);
     assert_all(rt, &style);
     drop(style);
 }

@@ -87,7 +87,7 @@ pub fn names(rt: &impl Abort, alloc: Global, name: &str, variable: NameVariable)
 }
 
 /// The meta that a word names.
-pub fn read_meta(rt: &impl Abort, alloc: Global, word: &str) -> ElemMeta {
+fn read_meta(rt: &impl Abort, alloc: Global, word: &str) -> ElemMeta {
     match word {
         "date" => ElemMeta::Date,
         "label" => ElemMeta::Label,

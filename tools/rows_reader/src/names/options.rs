@@ -2,7 +2,7 @@
 
 use crate::names::{Name, Named};
 use csl::entry::{DisambiguatedNameForm, IbidState, Sorting};
-use csl::literature::{GrammarGender, LongShortForm, NumberForm, Season};
+use csl::literature::{EntryType, GrammarGender, LongShortForm, NumberForm, Season};
 use csl::style::{
     ChooseMatch, DateAnyForm, DateForm, DatePartName, DateParts, DelimiterBehavior,
     DemoteNonDroppingParticle, Display, FontStyle, FontVariant, FontWeight, LabelPluralize,
@@ -49,6 +49,16 @@ named! {
         "last-digit" LastDigit, "last-two-digits" LastTwoDigits, "whole-number" WholeNumber
     }
     Sorting { "variable" Variable, "macro" Macro }
+    EntryType {
+        "article" Article, "chapter" Chapter, "entry" Entry, "anthos" Anthos, "report" Report,
+        "thesis" Thesis, "web" Web, "scene" Scene, "artwork" Artwork, "patent" Patent, "case" Case,
+        "newspaper" Newspaper, "legislation" Legislation, "manuscript" Manuscript, "post" Post,
+        "misc" Misc, "performance" Performance, "periodical" Periodical,
+        "proceedings" Proceedings, "book" Book, "blog" Blog, "reference" Reference,
+        "conference" Conference, "anthology" Anthology, "repository" Repository,
+        "thread" Thread, "video" Video, "audio" Audio, "exhibition" Exhibition,
+        "original" Original
+    }
     IbidState { "different" Different, "ibid" Ibid, "ibid-with-locator" IbidWithLocator }
 }
 

@@ -1,0 +1,187 @@
+//! What a row asks, and the lines that ask it.
+
+use crate::fault::Fault;
+use csl::BufWriteFormat;
+use csl::style::Variable;
+use std::alloc::Global;
+
+/// A question about a row.
+#[derive(Clone, Copy)]
+pub enum Question {
+    /// The content, as plain text or as HTML.
+    Text(BufWriteFormat),
+    /// The content, as a tree.
+    Tree,
+    /// The state after the nodes.
+    Left,
+    /// The usage flags of a dry run.
+    Dry,
+    /// Whether the nodes would show a variable.
+    Shows(Variable),
+    /// The tests of the first branch of a choice: 1 for one that holds, 0 for another.
+    Tests,
+    /// The errors of rendering and of a dry run.
+    Errors,
+    /// Whether the entry and the one beside it are alike, and the HTML of both.
+    Pair,
+    /// What the style is refused for.
+    Refused,
+    /// The first macro that the style calls and does not have.
+    MissingMacro,
+    /// Whether the year suffix is rendered where no text asks for it.
+    Suffix,
+    /// A question about a layout and the macros that it calls.
+    OfLayout(OfLayout),
+    /// A question about a tree or HTML.
+    OfTree(OfTree),
+    /// Whether a text is no HTML.
+    NotHtml,
+    /// What the work answers.
+    Answers,
+    /// Whether the work and the one beside it answer these variables and kinds alike, or not.
+    Alike(bool),
+    /// Whether both have the same answer to a variable, of a text in its long form, or not.
+    Same(bool),
+}
+
+/// A question about a layout and the macros that it calls.
+#[derive(Clone, Copy)]
+pub enum OfLayout {
+    /// The terms that it asks for and that no locale has.
+    MissingTerms,
+    /// The first of these terms.
+    MissingTerm,
+    /// The variables and kinds that it names.
+    Named,
+    /// Its size.
+    Size,
+    /// Its depth.
+    Depth,
+    /// Whether its size is above a limit.
+    Above(u64),
+    /// Whether one rendering goes through this many nodes, of this many in all, this deep.
+    Rendered(u64, u64, usize),
+}
+
+/// A question about a tree or HTML.
+#[derive(Clone, Copy)]
+pub enum OfTree {
+    /// The tree after one round of simplification.
+    Simplified,
+    /// The normal form.
+    Normal,
+    /// The text of the leaves.
+    Leaf,
+    /// An element, or the last text.
+    Found,
+}
+
+/// The text between quotes, or the text itself if it is in none.
+pub fn unquoted(text: &str) -> &str {
+    match text.strip_prefix('"') {
+        Some(rest) => rest.strip_suffix('"').unwrap_or(text),
+        None => text,
+    }
+}
+
+/// A limit of a number of nodes.
+fn limit(alloc: Global, word: &str) -> Result<u64, Fault> {
+    match word.parse::<u64>() {
+        Ok(number) => Ok(number),
+        Err(_) => Err(Fault::of_word(alloc, "not a number", word)),
+    }
+}
+
+/// The limits of one rendering: of its size, or of its size, of all branches and of the depth.
+fn rendered(alloc: Global, rest: &str) -> Result<OfLayout, Fault> {
+    let mut words = rest.split(' ');
+    let size = limit(alloc, words.next().unwrap_or(""))?;
+    match (words.next(), words.next(), words.next()) {
+        (None, _, _) => Ok(OfLayout::Rendered(size, u64::MAX, usize::MAX)),
+        (Some(all), Some(depth), None) => match depth.parse::<usize>() {
+            Ok(depth) => Ok(OfLayout::Rendered(size, limit(alloc, all)?, depth)),
+            Err(_) => Err(Fault::of_word(alloc, "not a number", depth)),
+        },
+        _ => Err(Fault::of_word(alloc, "one limit or three", rest)),
+    }
+}
+
+/// The question of a line about a layout, and the wanted answer.
+fn of_layout<'l>(
+    alloc: Global,
+    word: &str,
+    rest: &'l str,
+) -> Result<Option<(OfLayout, &'l str)>, Fault> {
+    let found = match word {
+        "missing" => (OfLayout::MissingTerms, rest),
+        "missing-term" => (OfLayout::MissingTerm, rest),
+        "named" => (OfLayout::Named, rest),
+        "size" => (OfLayout::Size, rest),
+        "depth" => (OfLayout::Depth, rest),
+        "above" => (OfLayout::Above(limit(alloc, rest)?), "yes"),
+        "rendered" => (rendered(alloc, rest)?, "yes"),
+        _ => return Ok(None),
+    };
+    Ok(Some(found))
+}
+
+/// The question of a line about a style, a work or a tree, and the wanted answer.
+fn of_one<'l>(word: &str, rest: &'l str) -> Option<(Question, &'l str)> {
+    let found = match word {
+        "refused" => (Question::Refused, rest),
+        "missing-macro" => (Question::MissingMacro, rest),
+        "year-suffix" => (Question::Suffix, rest),
+        "answers" => (Question::Answers, rest),
+        "alike" | "unlike" => (Question::Alike(word == "alike"), rest),
+        "same" | "other" => (Question::Same(word == "same"), rest),
+        "simplified" => (Question::OfTree(OfTree::Simplified), rest),
+        "normal" => (Question::OfTree(OfTree::Normal), rest),
+        "leaf" => (Question::OfTree(OfTree::Leaf), unquoted(rest)),
+        "found" => (Question::OfTree(OfTree::Found), rest),
+        "not-html" => (Question::NotHtml, rest),
+        _ => return None,
+    };
+    Some(found)
+}
+
+/// The question of a line about nodes and a cite, and the wanted answer.
+fn of_cite<'l>(
+    alloc: Global,
+    word: &str,
+    rest: &'l str,
+) -> Result<Option<(Question, &'l str)>, Fault> {
+    let found = match word {
+        "plain" => (Question::Text(BufWriteFormat::Plain), unquoted(rest)),
+        "html" => (Question::Text(BufWriteFormat::Html), unquoted(rest)),
+        "tree" => (Question::Tree, rest),
+        "left" => (Question::Left, rest),
+        "dry" => (Question::Dry, rest),
+        "tests" => (Question::Tests, rest),
+        "error" => (Question::Errors, rest),
+        "pair" => (Question::Pair, unquoted(rest)),
+        "shows" | "hides" => {
+            let Some(variable) = Variable::from_name(rest) else {
+                return Err(Fault::of_word(alloc, "no such variable", rest));
+            };
+            let wanted = if word == "shows" { "yes" } else { "no" };
+            (Question::Shows(variable), wanted)
+        }
+        _ => return Ok(None),
+    };
+    Ok(Some(found))
+}
+
+/// The question of a line, and the wanted answer, if the line has a question.
+pub fn question<'l>(
+    alloc: Global,
+    word: &str,
+    rest: &'l str,
+) -> Result<Option<(Question, &'l str)>, Fault> {
+    if let Some(found) = of_cite(alloc, word, rest)? {
+        return Ok(Some(found));
+    }
+    if let Some((found, wanted)) = of_layout(alloc, word, rest)? {
+        return Ok(Some((Question::OfLayout(found), wanted)));
+    }
+    Ok(of_one(word, rest))
+}
