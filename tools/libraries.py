@@ -1,12 +1,12 @@
-"""The built libraries of this checkout's sources that the kit keeps: what `rt ci` proved on this
-machine, here or in another checkout."""
+"""The built libraries of this checkout's sources: those that the kit keeps of what `rt ci` proved
+on this machine, here or in another checkout, and those that `rt ci` has left in this one."""
 import os
 import re
 import shutil
 import subprocess
 import sys
 
-from kit import TOP, kit
+from kit import PARTS, TOP, kit, uses_of_crates
 
 # `rt` has no word for it. This asks its own code for the library of each crate, lowest first, over
 # those below. A kit that keeps nothing, or in another way, gives none.
@@ -47,7 +47,36 @@ def kept_libraries(room: str, below: list[str]) -> dict[str, str]:
     return {name: f"{room}/crates/{name}/out/rlib/{name}.rlib" for name in names if name in below}
 
 
-def libraries_of_ci(below: list[str]) -> dict[str, str]:
-    """The libraries among these crates that `rt ci` has built in the checkout itself."""
-    places = {name: f"{TOP}/crates/{name}/out/rlib/{name}.rlib" for name in below}
+def libraries_of_ci(below: list[str], top: str = TOP) -> dict[str, str]:
+    """The libraries among these crates that `rt ci` has built in a checkout itself."""
+    places = {name: f"{top}/crates/{name}/out/rlib/{name}.rlib" for name in below}
     return {name: place for name, place in places.items() if os.path.isdir(place)}
+
+
+def last_change(folder: str) -> float:
+    """When a file or a folder below a folder has changed last."""
+    return max((os.path.getmtime(f"{at}/{name}") for at, _, files in os.walk(folder)
+                for name in [".", *files]), default=0.0)
+
+
+def libraries_left(below: list[str], top: str = TOP) -> dict[str, str]:
+    """The libraries among these crates, lowest first, that `rt ci` has left in a checkout and that
+    are up to date by their times: no source of the crate and no library below it is newer, and each
+    library below it is up to date."""
+    uses, times, found = uses_of_crates(top), {}, {}
+    for name, place in libraries_of_ci(below, top).items():
+        made = last_change(place)
+        sources = max(last_change(f"{top}/crates/{name}/{part}") for part in PARTS)
+        used = [it for it in uses[name] if it in uses]
+        if sources < made and all(times.get(it, made + 1) <= made for it in used):
+            times[name], found[name] = made, place
+    return found
+
+
+def libraries_to_take(room: str, below: list[str]) -> tuple[dict[str, str], str]:
+    """The libraries among these crates that a check may take, and a line that says which: those
+    that the kit keeps, or else those that `rt ci` has left here."""
+    found, whence = kept_libraries(room, below), "the kit keeps them"
+    if not found:
+        found, whence = libraries_left(below), "`rt ci` has left them here"
+    return found, f"libraries: {' '.join(found)} ({whence})" if found else "libraries: none"
