@@ -20,7 +20,8 @@
 -- Every branch counts, chosen or not, and so does every substitute. What is asked for some entries
 -- only counts: `and` is asked for where there are two names, et al. where names are left out, which a
 -- cite may do by itself, and an era beside early years. Months, which print as numbers, the delimiter
--- of page ranges, numbers and ordinals are not among these terms.
+-- of page ranges, numbers and ordinals are not among these terms. Nor is `editortranslator`, which
+-- adds no text: with it, editors and translators who are the same persons print as one list.
 use Rattle.std.specs.Prelude.{ℕ, Bool, true, false, not, ◌||◌, ◌&&◌, is_none, List, [], ◌∷◌, ◌++◌, map, flat_map, filter, find, Option, Some, None, if◌then◌else◌}
 use Rattle.std.specs.List.{fold, list_any}
 use denote.Enum.Bare.{sameb}

@@ -564,7 +564,8 @@ impl Style {
     /// substitute counts, and so does what only some entries need, such as `and`. A layout does not
     /// tell its scope, so `and` counts if names write it in one of the two. A label of the locator
     /// asks for the term of each kind, because each cite has its own. Months, which print as
-    /// numbers, ordinals and the delimiter of page ranges are not among these terms.
+    /// numbers, ordinals, the delimiter of page ranges and `editortranslator`, which adds no text,
+    /// are not among these terms.
     ///
     /// Ask this only of a layout that [`Style::expanded_within`] limits: the number of steps grows
     /// with the size and with the number of the missing terms, and the stack with the depth.
