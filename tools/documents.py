@@ -31,6 +31,13 @@ class Command(NamedTuple):
     block: int
 
 
+class Quote(NamedTuple):
+    """A fenced block of code that quotes no command: the last line before it, and its own."""
+
+    before: str
+    lines: list[Line]
+
+
 class Document:
     """A document: its name, which is its path in the repository unless that is given, and its
     lines."""
@@ -81,6 +88,20 @@ class Document:
             elif is_open:
                 found[-1].output.append(line.text)
         return found
+
+    def quotes(self) -> Iterator[Quote]:
+        """The fenced blocks of code that quote no command."""
+        before = ""
+        block: list[Line] | None = None
+        for line in self.lines:
+            if line.kind == "code" and line.text.startswith("```"):
+                if block and not any(it.text.startswith("$ ") for it in block):
+                    yield Quote(before, block)
+                block = [] if block is None else None
+            elif block is not None:
+                block.append(line)
+            elif line.text.strip():
+                before = line.text
 
     def rows(self) -> Iterator[tuple[int, list[str], list[str]]]:
         """The rows of its tables, each with the number of its line and the cells of the head."""
