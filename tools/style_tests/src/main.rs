@@ -1,7 +1,9 @@
-//! Cites two entries in each style that `tools/test_style` converts.
+//! Runs the first program of `docs/CALLING.md`, and cites two entries in each style that
+//! `tools/test_style` converts.
 #![tactic(auto)]
 
 mod author_date;
+mod first;
 mod others;
 
 use csl::entry::{IbidState, LocatorPayload, SpecificLocator, SpeculativeCiteProperties};
@@ -19,7 +21,7 @@ use std::io;
 
 /// Why the program ends early.
 #[derive(Debug, Drop, thiserror::Error)]
-enum CiteError {
+pub enum CiteError {
     #[error("{0}")]
     Csl(#[from] Error),
     #[error("{0}")]
@@ -297,6 +299,7 @@ fn show_numeric(
 
 fn main(rt: HostRuntime) -> Result<(), CiteError> {
     let alloc = rt.alloc();
+    first::print_cite(&rt)?;
     let machine = machine(alloc)?;
     let mixture = mixture(alloc)?;
     show_author_date(&rt, &author_date::style(alloc)?, &machine, &mixture)?;
