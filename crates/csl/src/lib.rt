@@ -6,6 +6,10 @@
 //! context and [`render`] the calls. [`english`], [`german`], [`spanish`] and seven more return
 //! locales to begin with, in the words of CSL's own. The errors of all calls convert into
 //! [`Error`]. `docs/CALLING.md` has a whole program.
+//!
+//! An error that the docs of a call do not explain means out of memory.
+//!
+//! An error that the docs of a call do not explain means out of memory.
 #![tactic(auto)]
 
 mod error;

@@ -167,9 +167,6 @@ fn locale(alloc: Global, language: &Language) -> Result<Locale, Memory>
 /// As in `en-US`, authors have no noun: styles label the names of `author`, so that the editors
 /// whom a substitute puts in their place are labelled. A label of the authors prints nothing, and
 /// so does one of any other role or number that has no term there, such as `collection-number`.
-///
-/// # Errors
-/// [`Memory`]: out of memory.
 pub fn english(alloc: Global) -> Result<Locale, Memory>
     ensures whole { IfOk result (HasContents english_contents) }
     ensures words { IfOk result (BeginsWith english_words) }
@@ -183,9 +180,6 @@ pub fn english(alloc: Global) -> Result<Locale, Memory>
 /// Returns the German locale, as [`english`] does the English one: the terms, ordinals, dates and
 /// options of CSL's own locale `de-DE`. Where `de-DE` has English words, such as those for
 /// performers, this has them too. A comma or period stays outside a closing quote.
-///
-/// # Errors
-/// [`Memory`]: out of memory.
 pub fn german(alloc: Global) -> Result<Locale, Memory>
     ensures whole { IfOk result (HasContents german_contents) }
     ensures words { IfOk result (BeginsWith german_words) }
@@ -200,9 +194,6 @@ pub fn german(alloc: Global) -> Result<Locale, Memory>
 /// the ordinals of each gender, the dates and the options of CSL's own locale `fr-FR`. A comma or
 /// period stays outside a closing quote, and only the first day of a month is written as an
 /// ordinal.
-///
-/// # Errors
-/// [`Memory`]: out of memory.
 pub fn french(alloc: Global) -> Result<Locale, Memory>
     ensures whole { IfOk result (HasContents french_contents) }
     ensures words { IfOk result (BeginsWith french_words) }
@@ -215,9 +206,6 @@ pub fn french(alloc: Global) -> Result<Locale, Memory>
 
 /// Returns the Spanish locale, as [`english`] does the English one: all that CSL's own locale
 /// `es-ES` has. A comma or period stays outside a closing quote.
-///
-/// # Errors
-/// [`Memory`]: out of memory.
 pub fn spanish(alloc: Global) -> Result<Locale, Memory>
     ensures whole { IfOk result (HasContents spanish_contents) }
     ensures words { IfOk result (BeginsWith spanish_words) }
@@ -230,9 +218,6 @@ pub fn spanish(alloc: Global) -> Result<Locale, Memory>
 
 /// Returns the Italian locale, as [`english`] does the English one: all that CSL's own locale
 /// `it-IT` has. A comma or period stays outside a closing quote.
-///
-/// # Errors
-/// [`Memory`]: out of memory.
 pub fn italian(alloc: Global) -> Result<Locale, Memory>
     ensures whole { IfOk result (HasContents italian_contents) }
     ensures words { IfOk result (BeginsWith italian_words) }
@@ -245,9 +230,6 @@ pub fn italian(alloc: Global) -> Result<Locale, Memory>
 
 /// Returns the Portuguese locale, as [`english`] does the English one: all that CSL's own locale
 /// `pt-BR` has. A comma or period stays outside a closing quote.
-///
-/// # Errors
-/// [`Memory`]: out of memory.
 pub fn brazilian_portuguese(alloc: Global) -> Result<Locale, Memory>
     ensures whole { IfOk result (HasContents brazilian_portuguese_contents) }
     ensures words { IfOk result (BeginsWith brazilian_portuguese_words) }
@@ -260,9 +242,6 @@ pub fn brazilian_portuguese(alloc: Global) -> Result<Locale, Memory>
 
 /// Returns the Dutch locale, as [`english`] does the English one: all that CSL's own locale `nl-NL`
 /// has. A comma or period stays outside a closing quote.
-///
-/// # Errors
-/// [`Memory`]: out of memory.
 pub fn dutch(alloc: Global) -> Result<Locale, Memory>
     ensures whole { IfOk result (HasContents dutch_contents) }
     ensures words { IfOk result (BeginsWith dutch_words) }
@@ -275,9 +254,6 @@ pub fn dutch(alloc: Global) -> Result<Locale, Memory>
 
 /// Returns the Polish locale, as [`english`] does the English one: all that CSL's own locale
 /// `pl-PL` has. A comma or period stays outside a closing quote.
-///
-/// # Errors
-/// [`Memory`]: out of memory.
 pub fn polish(alloc: Global) -> Result<Locale, Memory>
     ensures whole { IfOk result (HasContents polish_contents) }
     ensures words { IfOk result (BeginsWith polish_words) }
@@ -290,9 +266,6 @@ pub fn polish(alloc: Global) -> Result<Locale, Memory>
 
 /// Returns the Japanese locale, as [`english`] does the English one: all that CSL's own locale
 /// `ja-JP` has. A comma or period stays outside a closing quote.
-///
-/// # Errors
-/// [`Memory`]: out of memory.
 pub fn japanese(alloc: Global) -> Result<Locale, Memory>
     ensures whole { IfOk result (HasContents japanese_contents) }
     ensures words { IfOk result (BeginsWith japanese_words) }
@@ -305,9 +278,6 @@ pub fn japanese(alloc: Global) -> Result<Locale, Memory>
 
 /// Returns the Chinese locale, as [`english`] does the English one: all that CSL's own locale
 /// `zh-CN` has. A comma or period stays outside a closing quote.
-///
-/// # Errors
-/// [`Memory`]: out of memory.
 pub fn simplified_chinese(alloc: Global) -> Result<Locale, Memory>
     ensures whole { IfOk result (HasContents simplified_chinese_contents) }
     ensures words { IfOk result (BeginsWith simplified_chinese_words) }

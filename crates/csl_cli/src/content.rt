@@ -29,9 +29,6 @@ fn first_cite<T: EntryLike>(
 }
 
 /// The content of the first cite of an entry with only this title, in the style of titles.
-///
-/// # Errors
-/// [`Memory`]: out of memory.
 pub fn title_content(alloc: Global, title: &str) -> Result<ElemChildren, Memory>
     ensures { IfOk result (λ content. IsTitleContent title.now (tokens content)) }
 {
@@ -47,9 +44,6 @@ pub fn title_content(alloc: Global, title: &str) -> Result<ElemChildren, Memory>
 }
 
 /// The content of the first cite of a built-in entry, in a built-in style.
-///
-/// # Errors
-/// [`Memory`]: out of memory.
 pub fn entry_content(
     alloc: Global,
     entry: BuiltIn,

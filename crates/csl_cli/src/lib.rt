@@ -1,5 +1,9 @@
 //! The work of the program `csl_cite` as a library. [`run::run`] does all of it, over any two
 //! writers.
+//!
+//! An error that the docs of a call do not explain means out of memory.
+//!
+//! An error that the docs of a call do not explain means out of memory.
 #![tactic(auto)]
 
 mod answers;

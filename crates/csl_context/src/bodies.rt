@@ -64,10 +64,6 @@ impl<'s, T> Context<'s, T> {
     /// Opens the body of a node in its formatting, affixes, quotes and strip-periods.
     /// [`Context::close_body`] closes it, and writes the affixes and the quotes unless the body is
     /// empty.
-    ///
-    /// # Errors
-    /// [`RenderError::Memory`]: out of memory. The context has failed.
-    /// [`RenderError::Failed`]: the context had failed already.
     #[inline(never)]
     pub fn open_body(&mut self, around: BodyDressing<'_>) -> Result<OpenBody, RenderError>
         ensures after { Runs (with_open_body (body_attributes around.entry)) result self.old
@@ -155,10 +151,6 @@ impl<'s, T> Context<'s, T> {
     /// content in quotes and affixes, unless it is empty. If the first locale asks for it, a comma
     /// or period at the front of the suffix moves into the quotes (CSL 1.0.2, Locale:
     /// punctuation-in-quote). Restores the inherited values.
-    ///
-    /// # Errors
-    /// [`RenderError::Memory`]: out of memory. The context has failed.
-    /// [`RenderError::Failed`]: the context had failed already.
     #[inline(never)]
     pub fn close_body(
         &mut self,

@@ -139,9 +139,6 @@ impl LeftState {
     }
 
     /// An equal value.
-    ///
-    /// # Errors
-    /// [`Memory`]: out of memory.
     pub fn clone(&self, alloc: Global) -> Result<LeftState, Memory>
         ensures { IfOk result (λ copy. left_state_view copy ≡ left_state_view self.now) }
     {
@@ -158,9 +155,6 @@ impl LeftState {
 
 impl Rendered {
     /// An equal value.
-    ///
-    /// # Errors
-    /// [`Memory`]: out of memory.
     pub fn clone(&self, alloc: Global) -> Result<Rendered, Memory>
         ensures content { IfOk result (λ copy. tokens copy.content ≡ tokens self.now.content) }
         ensures state { IfOk result (λ copy.
@@ -207,9 +201,6 @@ fn begin<'s, T>(
 
 impl<'s, T> Context<'s, T> {
     /// Creates a context with only the root open, no content and the initial state.
-    ///
-    /// # Errors
-    /// [`Memory`]: out of memory.
     pub fn new(
         alloc: Global,
         style: &'s Style,
@@ -225,9 +216,6 @@ impl<'s, T> Context<'s, T> {
 
     /// Creates a context with only the root open, no content and the state that another rendering
     /// left.
-    ///
-    /// # Errors
-    /// [`Memory`]: out of memory.
     pub fn resume(
         alloc: Global,
         style: &'s Style,

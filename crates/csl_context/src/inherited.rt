@@ -12,10 +12,6 @@ use csl_tree::Formatting;
 
 impl<'s, T> Context<'s, T> {
     /// Puts a node's formatting over the inherited one until [`Context::pop_format`].
-    ///
-    /// # Errors
-    /// [`RenderError::Memory`]: out of memory. The context has failed.
-    /// [`RenderError::Failed`]: the context had failed already.
     pub fn push_format(&mut self, format: formatting::Formatting) -> Result<(), RenderError>
         ensures { Runs (with_format format) result self.old self.new }
     {
@@ -46,10 +42,6 @@ impl<'s, T> Context<'s, T> {
     }
 
     /// Replaces the inherited delimiter by this one, or by none, until [`Context::pop_delimiter`].
-    ///
-    /// # Errors
-    /// [`RenderError::Memory`]: out of memory. The context has failed.
-    /// [`RenderError::Failed`]: the context had failed already.
     pub fn push_delimiter(&mut self, delimiter: Option<&'s str>) -> Result<(), RenderError>
         ensures { Runs (with_delimiter (option_map (λ t. t.now) delimiter.entry))
             result self.old self.new }
@@ -82,10 +74,6 @@ impl<'s, T> Context<'s, T> {
 
     /// Puts a node's options of names over the inherited ones until [`Context::pop_name_options`]
     /// (CSL 1.0.2, Inheritable Name Options).
-    ///
-    /// # Errors
-    /// [`RenderError::Memory`]: out of memory. The context has failed.
-    /// [`RenderError::Failed`]: the context had failed already.
     pub fn push_name_options(
         &mut self,
         options: &'s InheritableNameOptions,

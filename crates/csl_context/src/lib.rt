@@ -3,6 +3,11 @@
 //!
 //! In contracts a context is one record (`specs/ContextView.antt`), and each call is one equation
 //! on it.
+//!
+//! A call that borrows a context mutably returns `Failed` if the context had failed, and changes
+//! nothing. It returns `Memory` if memory runs out, here or in the entry: then the context has
+//! failed. Docs of a call name these two errors only if they say more about them.
+//! Elsewhere an error that the docs do not explain means out of memory.
 #![tactic(auto)]
 
 mod bodies;

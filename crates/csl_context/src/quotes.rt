@@ -66,10 +66,6 @@ fn closing_quote(in_quotes: bool) -> OtherTerm
 impl<'s, T> Context<'s, T> {
     /// Opens a part for the content between affixes. [`Context::apply_suffix`] closes it, and
     /// writes the affixes unless the part is empty.
-    ///
-    /// # Errors
-    /// [`RenderError::Memory`]: out of memory. The context has failed.
-    /// [`RenderError::Failed`]: the context had failed already.
     pub fn apply_prefix(&mut self) -> Result<Mark, RenderError>
         ensures after { Runs with_part result self.old self.new }
         ensures mark { IfOk result (λ mark. length self.new.outer ≡ mark + 1) }
@@ -79,10 +75,6 @@ impl<'s, T> Context<'s, T> {
 
     /// Closes a part, and writes its content between the affixes, unless it is empty. If `moved`,
     /// the suffix is written without a leading `,` or `.`.
-    ///
-    /// # Errors
-    /// [`RenderError::Memory`]: out of memory. The context has failed.
-    /// [`RenderError::Failed`]: the context had failed already.
     pub fn apply_suffix(
         &mut self,
         affixes: &Affixes,
@@ -100,10 +92,6 @@ impl<'s, T> Context<'s, T> {
 
     /// Closes a part, and writes its content between two texts into the part around it, unless it
     /// is empty.
-    ///
-    /// # Errors
-    /// [`RenderError::Memory`]: out of memory. The context has failed.
-    /// [`RenderError::Failed`]: the context had failed already.
     pub fn splice_affixed(
         &mut self,
         mark: Mark,
@@ -276,10 +264,6 @@ impl<'s, T> Context<'s, T> {
 
     /// Opens a part for the inside of quotes. [`Context::pop_quotes`] closes it, and writes the
     /// quotes unless the part is empty.
-    ///
-    /// # Errors
-    /// [`RenderError::Memory`]: out of memory. The context has failed.
-    /// [`RenderError::Failed`]: the context had failed already.
     pub fn push_quotes(&mut self) -> Result<Mark, RenderError>
         ensures after { Runs (λ now. with_part (with_quotes_toggled now)) result self.old self.new }
         ensures mark { IfOk result (λ mark. length self.new.outer ≡ mark + 1) }
@@ -294,10 +278,6 @@ impl<'s, T> Context<'s, T> {
     /// writes `suffix` after them. If the first locale asks for it, a comma or period at the front
     /// of `suffix` moves before the closing quote (CSL 1.0.2, Locale: punctuation-in-quote).
     /// Returns whether one moved.
-    ///
-    /// # Errors
-    /// [`RenderError::Memory`]: out of memory. The context has failed.
-    /// [`RenderError::Failed`]: the context had failed already.
     pub fn pop_quotes(&mut self, mark: Mark, suffix: Option<&str>) -> Result<bool, RenderError>
         requires innermost { IsInnermost mark self.old }
         ensures after { Runs (λ now.

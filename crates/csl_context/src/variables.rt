@@ -136,10 +136,6 @@ impl<'s, T: EntryLike> Context<'s, T> {
     /// Looks up a number variable for printing. Returns the same as
     /// [`Context::peek_number_variable`], and suppresses the variable if the suppressing switch is
     /// on.
-    ///
-    /// # Errors
-    /// [`RenderError::Memory`]: out of memory, here or in the entry. The context has failed.
-    /// [`RenderError::Failed`]: the context had failed already.
     pub fn resolve_number_variable(
         &mut self,
         variable: NumberVariable,
@@ -155,10 +151,6 @@ impl<'s, T: EntryLike> Context<'s, T> {
 
     /// Looks up a page variable for printing. Returns the same as [`Context::peek_page_variable`],
     /// and suppresses the variable if the suppressing switch is on.
-    ///
-    /// # Errors
-    /// [`RenderError::Memory`]: out of memory, here or in the entry. The context has failed.
-    /// [`RenderError::Failed`]: the context had failed already.
     pub fn resolve_page_variable(
         &mut self,
         variable: PageVariable,
@@ -175,10 +167,6 @@ impl<'s, T: EntryLike> Context<'s, T> {
     /// Looks up a standard variable for printing. Returns the same as
     /// [`Context::peek_standard_variable`], and suppresses the variable if the suppressing switch
     /// is on.
-    ///
-    /// # Errors
-    /// [`RenderError::Memory`]: out of memory, here or in the entry. The context has failed.
-    /// [`RenderError::Failed`]: the context had failed already.
     pub fn resolve_standard_variable(
         &mut self,
         form: LongShortForm,
@@ -195,10 +183,6 @@ impl<'s, T: EntryLike> Context<'s, T> {
 
     /// Looks up a name variable for printing. Returns the same as [`Context::peek_name_variable`],
     /// and suppresses the variable if the suppressing switch is on.
-    ///
-    /// # Errors
-    /// [`RenderError::Memory`]: out of memory, here or in the entry. The context has failed.
-    /// [`RenderError::Failed`]: the context had failed already.
     pub fn resolve_name_variable(
         &mut self,
         variable: NameVariable,
@@ -214,10 +198,6 @@ impl<'s, T: EntryLike> Context<'s, T> {
 
     /// Looks up a date variable for printing. Returns the same as [`Context::peek_date_variable`],
     /// and suppresses the variable if the suppressing switch is on.
-    ///
-    /// # Errors
-    /// [`RenderError::Memory`]: out of memory, here or in the entry. The context has failed.
-    /// [`RenderError::Failed`]: the context had failed already.
     pub fn resolve_date_variable(
         &mut self,
         variable: DateVariable,

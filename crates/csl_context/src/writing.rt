@@ -118,10 +118,6 @@ impl<'s, T> Context<'s, T> {
     }
 
     /// Writes a text in the inherited formatting (CSL 1.0.2, Formatting, Strip-periods).
-    ///
-    /// # Errors
-    /// [`RenderError::Memory`]: out of memory. The context has failed.
-    /// [`RenderError::Failed`]: the context had failed already.
     pub fn push_str(&mut self, text: &str) -> Result<(), RenderError>
         ensures { Runs (with_content (λ inh. text_in inh text.now)) result self.old self.new }
     {
@@ -132,10 +128,6 @@ impl<'s, T> Context<'s, T> {
     }
 
     /// Writes a text in a formatting over the inherited one.
-    ///
-    /// # Errors
-    /// [`RenderError::Memory`]: out of memory. The context has failed.
-    /// [`RenderError::Failed`]: the context had failed already.
     pub fn push_str_in(
         &mut self,
         text: &str,
@@ -198,10 +190,6 @@ impl<'s, T> Context<'s, T> {
 
     /// Writes the pieces of a text: normal ones as [`Context::push_str`] does, verbatim ones with
     /// their periods, mathematics as markup.
-    ///
-    /// # Errors
-    /// [`RenderError::Memory`]: out of memory. The context has failed.
-    /// [`RenderError::Failed`]: the context had failed already.
     pub fn push_chunked(&mut self, text: &ChunkedString) -> Result<(), RenderError>
         ensures { Runs (with_content (λ inh. chunks_in inh (chunks text.now)))
             result self.old self.new }
@@ -215,10 +203,6 @@ impl<'s, T> Context<'s, T> {
 
     /// Writes a link, unless its text is empty. The text is in the inherited formatting, and keeps
     /// its periods.
-    ///
-    /// # Errors
-    /// [`RenderError::Memory`]: out of memory. The context has failed.
-    /// [`RenderError::Failed`]: the context had failed already.
     pub fn push_link(&mut self, text: &str, url: &str) -> Result<(), RenderError>
         ensures { Runs (with_content (λ inh. link_in inh text.now url.now))
             result self.old self.new }
@@ -231,10 +215,6 @@ impl<'s, T> Context<'s, T> {
 
     /// Writes a place in the inherited formatting. The caller fills it for the cite of index
     /// `cite_idx`.
-    ///
-    /// # Errors
-    /// [`RenderError::Memory`]: out of memory. The context has failed.
-    /// [`RenderError::Failed`]: the context had failed already.
     pub fn push_transparent(&mut self, cite_idx: usize) -> Result<(), RenderError>
         ensures { Runs (with_content (λ inh. transparent_in inh cite_idx))
             result self.old self.new }
@@ -246,10 +226,6 @@ impl<'s, T> Context<'s, T> {
     }
 
     /// Writes a space, unless the text of the innermost open part is empty or ends in white space.
-    ///
-    /// # Errors
-    /// [`RenderError::Memory`]: out of memory. The context has failed.
-    /// [`RenderError::Failed`]: the context had failed already.
     pub fn ensure_space(&mut self) -> Result<(), RenderError>
         ensures { Runs with_space result self.old self.new }
     {
@@ -258,10 +234,6 @@ impl<'s, T> Context<'s, T> {
     }
 
     /// Writes a space as [`Context::ensure_space`] does, in a formatting over the inherited one.
-    ///
-    /// # Errors
-    /// [`RenderError::Memory`]: out of memory. The context has failed.
-    /// [`RenderError::Failed`]: the context had failed already.
     pub fn ensure_space_in(&mut self, format: formatting::Formatting) -> Result<(), RenderError>
         ensures { Runs (with_space_in format) result self.old self.new }
     {
@@ -295,10 +267,6 @@ impl<'s, T> Context<'s, T> {
     }
 
     /// Opens a part and returns its mark. [`Context::commit_elem`] closes it as an element.
-    ///
-    /// # Errors
-    /// [`RenderError::Memory`]: out of memory. The context has failed.
-    /// [`RenderError::Failed`]: the context had failed already.
     #[inline(never)]
     pub fn push_elem(&mut self) -> Result<Mark, RenderError>
         ensures after { Runs with_part result self.old self.new }
@@ -322,10 +290,6 @@ impl<'s, T> Context<'s, T> {
     /// Closes a part as an element of the part around it (CSL 1.0.2, Display). A part without
     /// content is dropped. The content of any other part is not empty by
     /// [`csl_tree::ElemChildren::is_empty`].
-    ///
-    /// # Errors
-    /// [`RenderError::Memory`]: out of memory. The context has failed.
-    /// [`RenderError::Failed`]: the context had failed already.
     pub fn commit_elem(
         &mut self,
         mark: Mark,
@@ -356,10 +320,6 @@ impl<'s, T> Context<'s, T> {
     }
 
     /// Closes a part, and appends its content to the part around it.
-    ///
-    /// # Errors
-    /// [`RenderError::Memory`]: out of memory. The context has failed.
-    /// [`RenderError::Failed`]: the context had failed already.
     pub fn splice(&mut self, mark: Mark) -> Result<(), RenderError>
         requires innermost { IsInnermost mark self.old }
         ensures { Runs (close_part_by (λ _ c. c)) result self.old self.new }

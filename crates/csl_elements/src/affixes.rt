@@ -16,9 +16,6 @@ pub struct Affixes {
 
 impl Affixes {
     /// A prefix without a suffix.
-    ///
-    /// # Errors
-    /// [`Memory`]: out of memory.
     pub fn before(alloc: Global, prefix: &str) -> Result<Affixes, Memory>
         ensures { IfOk result (λ affixes. affix_texts affixes ≡ text_before prefix.now) }
     {
@@ -29,9 +26,6 @@ impl Affixes {
     }
 
     /// A suffix without a prefix.
-    ///
-    /// # Errors
-    /// [`Memory`]: out of memory.
     pub fn after(alloc: Global, suffix: &str) -> Result<Affixes, Memory>
         ensures { IfOk result (λ affixes. affix_texts affixes ≡ text_after suffix.now) }
     {
@@ -42,9 +36,6 @@ impl Affixes {
     }
 
     /// A prefix and a suffix.
-    ///
-    /// # Errors
-    /// [`Memory`]: out of memory.
     pub fn around(alloc: Global, prefix: &str, suffix: &str) -> Result<Affixes, Memory>
         ensures { IfOk result (λ affixes. affix_texts affixes ≡ texts_around prefix.now suffix.now) }
     {

@@ -1,5 +1,7 @@
 //! What CSL styles are made of (CSL 1.0.2): nodes, their options and formatting, terms, variables
 //! and locales. `csl_style` makes styles of them.
+//!
+//! An error that the docs of a call do not explain means out of memory.
 #![tactic(auto)]
 
 pub mod affixes;

@@ -29,9 +29,6 @@ pub struct TermEntry {
 
 impl TermEntry {
     /// A term with one text for the singular and the plural.
-    ///
-    /// # Errors
-    /// [`Memory`]: out of memory.
     pub fn new(alloc: Global, term: Term, form: TermForm, text: &str) -> Result<TermEntry, Memory>
         ensures { IfOk result (λ made. term_view made ≡ record {
           term = term;
@@ -51,9 +48,6 @@ impl TermEntry {
     }
 
     /// A term with a singular and a plural text.
-    ///
-    /// # Errors
-    /// [`Memory`]: out of memory.
     pub fn counted(
         alloc: Global,
         term: Term,

@@ -22,9 +22,6 @@ pub struct Named {
 
 impl Named {
     /// An equal value.
-    ///
-    /// # Errors
-    /// [`Memory`]: out of memory.
     pub fn clone(&self, _alloc: Global) -> Result<Named, Memory>
         ensures { IfOk result (λ copy. copy ≡ self.now) }
     {

@@ -87,9 +87,6 @@ impl Text {
     }
 
     /// A text that prints these words.
-    ///
-    /// # Errors
-    /// [`Memory`]: out of memory.
     pub fn value(alloc: Global, value: &str) -> Result<Text, Memory>
         ensures view { IfOk result (λ text. view_text text
             ≡ node.text (of_value value.now) (text_dressing text)) }
@@ -102,9 +99,6 @@ impl Text {
 
     /// A text that prints the macro of this name. If the style has none, it prints nothing
     /// (`Style::missing_macro` of `csl_style`).
-    ///
-    /// # Errors
-    /// [`Memory`]: out of memory.
     pub fn macro_call(alloc: Global, name: &str) -> Result<Text, Memory>
         ensures view { IfOk result (λ text. view_text text
             ≡ node.call name.now (text_dressing text)) }

@@ -1,5 +1,7 @@
 //! The answers of entries and cites to a style: the trait for entries of any type, the answers of
 //! the built-in entry, and the answers of a cite in its citation.
+//!
+//! An error that the docs of a call do not explain means out of memory.
 #![tactic(auto)]
 
 mod citation;

@@ -75,9 +75,6 @@ impl<'a> NumberVariableResult<'a> {
     }
 
     /// Returns an equal value, which borrows its number exactly if this one does.
-    ///
-    /// # Errors
-    /// [`Memory`]: out of memory.
     pub fn clone(&self, alloc: Global) -> Result<NumberVariableResult<'a>, Memory>
         ensures value { IfOk result (λ copy. result_view copy ≡ result_view self.now) }
         ensures borrows { IfOk result (λ copy. is_borrowed copy ≡ is_borrowed self.now) }
@@ -103,9 +100,6 @@ impl<'a> NumberVariableResult<'a> {
 
 impl<'a> NumberOrPageVariableResult<'a> {
     /// Returns an equal value.
-    ///
-    /// # Errors
-    /// [`Memory`]: out of memory.
     pub fn clone(&self, alloc: Global) -> Result<NumberOrPageVariableResult<'a>, Memory>
         ensures { IfOk result (λ copy. number_or_page_view copy ≡ number_or_page_view self.now) }
     {

@@ -40,9 +40,6 @@ pub struct Snapshot {
 impl Snapshot {
     /// Returns what the entry answers to the named variables and kinds, standard variables in both
     /// forms. Of a layout that names nothing, it is empty.
-    ///
-    /// # Errors
-    /// [`Memory`]: out of memory.
     pub fn new<T: EntryLike>(alloc: Global, entry: &T, named: &Named) -> Result<Snapshot, Memory>
         ensures kept { IfOk result (λ s.
             kept_of s ≡ snapshot_of named.now (T.answers entry.now)) }

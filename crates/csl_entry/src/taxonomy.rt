@@ -31,9 +31,6 @@ pub trait EntryLike {
     ghost english: { Self → Option Bool };
 
     /// Returns the number, or the text if it is not a number (CSL 1.0.2, Number Variables).
-    ///
-    /// # Errors
-    /// [`Memory`]: out of memory.
     fn resolve_number_variable(
         &self,
         alloc: Global,
@@ -43,9 +40,6 @@ pub trait EntryLike {
             ≡ (answers self.now).numbers variable) };
 
     /// Returns the pages, or the text if it is not pages.
-    ///
-    /// # Errors
-    /// [`Memory`]: out of memory.
     fn resolve_page_variable(
         &self,
         alloc: Global,
@@ -55,9 +49,6 @@ pub trait EntryLike {
             ≡ (answers self.now).pages variable) };
 
     /// Returns the text in the requested form (CSL 1.0.2, Standard Variables).
-    ///
-    /// # Errors
-    /// [`Memory`]: out of memory.
     fn resolve_standard_variable(
         &self,
         alloc: Global,
@@ -69,9 +60,6 @@ pub trait EntryLike {
 
     /// Returns the persons in order, or an empty list if there are none (CSL 1.0.2, Name
     /// Variables).
-    ///
-    /// # Errors
-    /// [`Memory`]: out of memory.
     fn resolve_name_variable(
         &self,
         alloc: Global,
@@ -81,9 +69,6 @@ pub trait EntryLike {
             ≡ (answers self.now).names variable) };
 
     /// Returns the date (CSL 1.0.2, Date Variables).
-    ///
-    /// # Errors
-    /// [`Memory`]: out of memory.
     fn resolve_date_variable(
         &self,
         alloc: Global,

@@ -98,9 +98,6 @@ impl EntryLike for Blank {
 
 impl Blank {
     /// Returns a blank entry.
-    ///
-    /// # Errors
-    /// [`Memory`]: out of memory.
     pub fn new(alloc: Global) -> Result<Blank, Memory> {
         let text = ChunkedString::plain(alloc, "")?;
         let person = Person::institution(alloc, "")?;

@@ -6,10 +6,6 @@ use csl_context::{Context, RenderError};
 use csl_elements::Affixes;
 
 /// Writes the text in quotes, between affixes. The parts around it stay open.
-///
-/// # Errors
-/// [`RenderError::Memory`]: out of memory. The context has failed.
-/// [`RenderError::Failed`]: the context had failed already.
 #[tactic(auto, unfolding(csl_context::specs::ContextView::with_quotes))]
 pub fn push_quoted<T>(
     ctx: &mut Context<'_, T>,

@@ -15,9 +15,6 @@ pub fn same_stack(a: &NonEmptyStack<u8>, b: &NonEmptyStack<u8>) -> bool
 }
 
 /// Removes the items from `idx` on, and returns them in order, or `None` if there are none.
-///
-/// # Errors
-/// [`Memory`]: out of memory.
 pub fn items_from(
     stack: &mut NonEmptyStack<u8>,
     idx: NonZeroUsize,

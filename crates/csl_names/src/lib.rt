@@ -1,5 +1,9 @@
 //! Writes persons into a context of the caller (CSL 1.0.2, Names): one name, a list of names, or
 //! the lists of a names node.
+//!
+//! A call that borrows a context mutably returns `Failed` if the context had failed, and changes
+//! nothing. It returns `Memory` if memory runs out, here or in the entry: then the context has
+//! failed. Docs of a call name these two errors only if they say more about them.
 #![tactic(auto)]
 
 mod et_al;

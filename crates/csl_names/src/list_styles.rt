@@ -46,10 +46,6 @@ fn list_style<'n, 's: 'n, T>(
 /// Writes a list of names: those up to the first without a form, each in an element of its own,
 /// with separators. If the forms leave a name out, `et al.` or the last name may follow (CSL 1.0.2,
 /// Name, Et-al).
-///
-/// # Errors
-/// [`RenderError::Memory`]: out of memory. The context has failed.
-/// [`RenderError::Failed`]: the context had failed already.
 pub fn write_name_list<T>(
     ctx: &mut Context<'_, T>,
     name: &Name,

@@ -70,10 +70,6 @@ pub(crate) fn name_style<'n, T>(
 
 /// Writes one name: an institution, a name in a Chinese, Japanese or Korean script, or one whose
 /// family name or given name comes first. Its gaps depend on this name alone.
-///
-/// # Errors
-/// [`RenderError::Memory`]: out of memory. The context has failed.
-/// [`RenderError::Failed`]: the context had failed already.
 pub fn write_name<T>(
     ctx: &mut Context<'_, T>,
     name: &Name,

@@ -55,10 +55,6 @@ pub fn date_shows<'s, T: EntryLike>(ctx: &Context<'s, T>, node: &Date, asked: Va
 }
 
 /// Renders a date, with a lookup for printing if the date shows its variable.
-///
-/// # Errors
-/// [`RenderError::Memory`]: out of memory, here or in the entry. The context has failed.
-/// [`RenderError::Failed`]: the context had failed already.
 #[inline(never)]
 pub fn render_date<'s, T: EntryLike>(
     ctx: &mut Context<'s, T>,

@@ -121,9 +121,6 @@ pub(crate) fn sort_key(
 
 /// The sort key of a date with all its parts. For the years -1147483647 to 999999999, the bytes of
 /// two such keys are in the order of time: by year, month and day, an absent one first.
-///
-/// # Errors
-/// [`Memory`]: out of memory.
 pub fn full_sort_key(alloc: Global, date: &lit_model::Date) -> Result<String, Memory>
     ensures key { IfOk result (λ s. string_bytes s ≡ full_key (date_view date.now)) }
     ensures order { IfOk result (λ s. SortsByTime (string_bytes s) date.now) }

@@ -43,10 +43,6 @@ pub fn label_info<'s, T: EntryLike>(
 }
 
 /// Renders a label. The lookup of its variable is silent.
-///
-/// # Errors
-/// [`RenderError::Memory`]: out of memory, here or in the entry. The context has failed.
-/// [`RenderError::Failed`]: the context had failed already.
 #[inline(never)]
 pub fn render_label<'s, T: EntryLike>(
     ctx: &mut Context<'s, T>,

@@ -3,6 +3,11 @@
 //! Also here are the tests of a branch (Choose), usage flags and the group rule (Group).
 //! The larger functions are kept out of line (`inline(never)`). Inside the callers, which call one
 //! another, their locals would take stack at each level of nesting.
+//!
+//! A call that borrows a context mutably returns `Failed` if the context had failed, and changes
+//! nothing. It returns `Memory` if memory runs out, here or in the entry: then the context has
+//! failed. Docs of a call name these two errors only if they say more about them.
+//! Elsewhere an error that the docs do not explain means out of memory.
 #![tactic(auto)]
 
 mod boxes;

@@ -57,10 +57,6 @@ pub fn number_shows<'s, T: EntryLike>(
 }
 
 /// Renders a number, with a lookup for printing if the number shows its variable.
-///
-/// # Errors
-/// [`RenderError::Memory`]: out of memory, here or in the entry. The context has failed.
-/// [`RenderError::Failed`]: the context had failed already.
 #[inline(never)]
 pub fn render_number<'s, T: EntryLike>(
     ctx: &mut Context<'s, T>,

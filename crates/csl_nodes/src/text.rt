@@ -99,10 +99,6 @@ pub fn value_info<'s, T: EntryLike>(ctx: &Context<'s, T>, value: &str) -> (bool,
 }
 
 /// Renders a text of a variable. The lookup is for printing.
-///
-/// # Errors
-/// [`RenderError::Memory`]: out of memory, here or in the entry. The context has failed.
-/// [`RenderError::Failed`]: the context had failed already.
 #[inline(never)]
 pub fn render_variable<'s, T: EntryLike>(
     ctx: &mut Context<'s, T>,
@@ -120,10 +116,6 @@ pub fn render_variable<'s, T: EntryLike>(
 }
 
 /// Renders a text of a term.
-///
-/// # Errors
-/// [`RenderError::Memory`]: out of memory. The context has failed.
-/// [`RenderError::Failed`]: the context had failed already.
 #[inline(never)]
 pub fn render_term<'s, T: EntryLike>(
     ctx: &mut Context<'s, T>,

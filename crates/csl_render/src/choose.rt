@@ -55,10 +55,6 @@ fn first_taken<'a, 's, T: EntryLike>(
 /// Returns the nodes of the first branch whose conditions satisfy its match, else those of
 /// `cs:else`, if there is one. Reads no more conditions than this needs. On `Ok` the context is
 /// unchanged.
-///
-/// # Errors
-/// [`RenderError::Memory`]: out of memory, here or in the entry. The context has failed.
-/// [`RenderError::Failed`]: the context had failed already.
 pub fn choose_children<'a, 's, T: EntryLike>(
     choose: &'a Choose,
     ctx: &mut Context<'s, T>,

@@ -3,6 +3,10 @@
 //! lends. This crate has the nodes that hold other nodes or call a macro. The other nodes are in
 //! `csl_nodes`, and the writing of persons in `csl_names`. Code that would take stack at each level
 //! of nesting, though the nodes inside do not need it, is kept out of line (`inline(never)`).
+//!
+//! A call that borrows a context mutably returns `Failed` if the context had failed, and changes
+//! nothing. It returns `Memory` if memory runs out, here or in the entry: then the context has
+//! failed. Docs of a call name these two errors only if they say more about them.
 #![tactic(auto)]
 
 mod choose;

@@ -17,10 +17,6 @@ pub trait RenderCsl {
 
     /// The dry run: whether it would print, and its usage flags (CSL 1.0.2, Group). On `Ok` the
     /// context is unchanged.
-    ///
-    /// # Errors
-    /// [`RenderError::Memory`]: out of memory, here or in the entry. The context has failed.
-    /// [`RenderError::Failed`]: the context had failed already.
     fn will_have_info<'s, T: EntryLike>(
         &'s self,
         ctx: &mut Context<'s, T>,

@@ -116,9 +116,6 @@ fn ordinals(alloc: Global) -> Result<Vec<OrdinalTerm>, Memory>
 }
 
 /// The English locale of the built-in styles.
-///
-/// # Errors
-/// [`Memory`]: out of memory.
 pub fn english(alloc: Global) -> Result<Locale, Memory>
     ensures { IfOk result IsEnglish }
 {

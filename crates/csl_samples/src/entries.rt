@@ -44,9 +44,6 @@ impl BuiltIn {
     }
 
     /// The built-in entry as an [`Entry`].
-    ///
-    /// # Errors
-    /// [`Memory`]: out of memory.
     pub fn entry(self, alloc: Global) -> Result<Entry, Memory>
         ensures { IfOk result (IsBuiltIn self) }
     {

@@ -11,9 +11,6 @@ use std::alloc::Global;
 
 impl BuiltIn {
     /// The label of the entry, with three letters.
-    ///
-    /// # Errors
-    /// [`Memory`]: out of memory.
     pub fn label(self, alloc: Global) -> Result<String, Memory>
         ensures { IfOk result (λ label. string_bytes label ≡ label_text self) }
     {
@@ -24,9 +21,6 @@ impl BuiltIn {
     }
 
     /// Whether the entry is of a kind.
-    ///
-    /// # Errors
-    /// [`Memory`]: out of memory.
     pub fn is_of_kind(self, alloc: Global, kind: Kind) -> Result<bool, Memory>
         ensures { IfOk result (λ answer. answer ≡ is_built_in_kind kind self) }
     {

@@ -1,5 +1,7 @@
 //! The built-in data of the program `csl_cite`: entries with their labels and kinds, the styles
 //! that they are cited in, and the style that a title is cited in.
+//!
+//! An error that the docs of a call do not explain means out of memory.
 #![tactic(auto)]
 
 mod english;

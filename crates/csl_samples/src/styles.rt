@@ -45,9 +45,6 @@ impl BuiltInStyle {
     }
 
     /// The style. It has a citation layout, default settings, the English locale, and no macros.
-    ///
-    /// # Errors
-    /// [`Memory`]: out of memory.
     pub fn style(self, alloc: Global) -> Result<Style, Memory>
         ensures { IfOk result (IsBuiltInStyle self) }
     {

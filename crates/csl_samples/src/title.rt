@@ -137,9 +137,6 @@ fn title_layout(alloc: Global) -> Result<Layout, Memory>
 }
 
 /// The style that titles are cited in. It has a citation layout, no macros and no locales.
-///
-/// # Errors
-/// [`Memory`]: out of memory.
 pub fn title_style(alloc: Global) -> Result<Style, Memory>
     ensures { IfOk result CitesTitles }
 {

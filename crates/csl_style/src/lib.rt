@@ -1,5 +1,7 @@
 //! CSL styles as data (CSL 1.0.2): their settings, macros, layouts and locales. What they are made
 //! of is in `csl_elements`, and this crate hands it on.
+//!
+//! An error that the docs of a call do not explain means out of memory.
 #![tactic(auto)]
 
 mod all_nodes;

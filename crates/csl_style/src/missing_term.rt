@@ -569,9 +569,6 @@ impl Style {
     ///
     /// Ask this only of a layout that [`Style::expanded_within`] limits: the number of steps grows
     /// with the size and with the number of the missing terms, and the stack with the depth.
-    ///
-    /// # Errors
-    /// [`Memory`]: out of memory.
     pub fn missing_terms(
         &self,
         alloc: Global,

@@ -225,9 +225,6 @@ fn unmarked_macro<'s>(
 /// that it reaches. Every branch with its tests and every substitute is included. The four
 /// variables that the citation answers ([`Variable::is_of_citation`]) are left out. It goes through
 /// no macro twice, and no depth takes stack.
-///
-/// # Errors
-/// [`Memory`]: out of memory.
 pub fn named_by(alloc: Global, style: &Style, layout: &Layout) -> Result<Named, Memory>
     ensures { IfOk result (λ named. named_set named
         ≡ named_in_nodes (expand_layout (macro_env style.now) (view_layout layout.now)).elements) }

@@ -12,9 +12,6 @@ use std::alloc::Global;
 
 impl Formatted {
     /// Returns a copy of the text.
-    ///
-    /// # Errors
-    /// [`Memory`]: out of memory.
     pub fn clone(&self, alloc: Global) -> Result<Formatted, Memory>
         ensures { IfOk result (λ copy. text_tokens copy ≡ text_tokens self.now) }
     {
@@ -51,9 +48,6 @@ fn copy_names(
 
 impl ElemMeta {
     /// Returns a copy of the meta.
-    ///
-    /// # Errors
-    /// [`Memory`]: out of memory.
     pub fn clone(&self, alloc: Global) -> Result<ElemMeta, Memory>
         ensures { IfOk result (λ copy. meta_of copy ≡ meta_of self.now) }
     {
@@ -86,9 +80,6 @@ pub(crate) fn clone_meta(meta: &Option<ElemMeta>, alloc: Global) -> Result<Optio
 
 impl ElemChildren {
     /// Returns a copy of the children.
-    ///
-    /// # Errors
-    /// [`Memory`]: out of memory.
     #[cycle(copies)]
     pub fn clone(&self, alloc: Global) -> Result<ElemChildren, Memory>
         ensures { IfOk result (λ copy. tokens copy ≡ tokens self.now) }
@@ -103,9 +94,6 @@ impl ElemChildren {
 
 impl Elem {
     /// Returns a copy of the element.
-    ///
-    /// # Errors
-    /// [`Memory`]: out of memory.
     #[cycle(copies)]
     pub fn clone(&self, alloc: Global) -> Result<Elem, Memory>
         ensures { IfOk result (λ copy. elem_tokens copy ≡ elem_tokens self.now) }
@@ -122,9 +110,6 @@ impl Elem {
 
 impl ElemChild {
     /// Returns a copy of the child.
-    ///
-    /// # Errors
-    /// [`Memory`]: out of memory.
     #[cycle(copies)]
     pub fn clone(&self, alloc: Global) -> Result<ElemChild, Memory>
         ensures { IfOk result (λ copy. child_tokens copy ≡ child_tokens self.now) }

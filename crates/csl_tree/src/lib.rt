@@ -3,6 +3,8 @@
 //! The *leaf text* of a tree is its texts, markups and link texts in order, joined. Contracts see a
 //! tree as its list of tokens (`specs/Tokens.antt`). The tokens leave out only how the texts are
 //! stored.
+//!
+//! An error that the docs of a call do not explain means out of memory.
 #![tactic(auto)]
 
 pub mod content;

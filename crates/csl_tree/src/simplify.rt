@@ -21,9 +21,6 @@ use std::alloc::Global;
 /// replaced by its children, unchanged. Any other element gets a round inside. Each text that was
 /// itself a child then joins a text of equal formatting before it. The styled value stays the same.
 /// The round changes nothing exactly if the children are normal already.
-///
-/// # Errors
-/// [`Memory`]: out of memory.
 #[cycle(rounds)]
 pub fn simplify_children(alloc: Global, children: &ElemChildren) -> Result<ElemChildren, Memory>
     ensures round { IfOk result (λ r. tree r ≡ simplify_once (tree children.now)) }
@@ -77,9 +74,6 @@ impl ElemChild {
 
 impl Elem {
     /// Returns the element with one round of simplification inside.
-    ///
-    /// # Errors
-    /// [`Memory`]: out of memory.
     #[cycle(rounds)]
     pub fn simplify(&self, alloc: Global) -> Result<Elem, Memory>
         ensures round { IfOk result (λ r.
@@ -104,9 +98,6 @@ impl Elem {
 /// Returns the normal form of the children, in one pass: what rounds give once a further one would
 /// change nothing. No more rounds are needed than there are nodes. Trees without empty texts have
 /// the same normal form exactly if they have the same styled value.
-///
-/// # Errors
-/// [`Memory`]: out of memory.
 pub fn simplify_fully(alloc: Global, children: &ElemChildren) -> Result<ElemChildren, Memory>
     ensures rounds { IfOk result (λ r. tree r ≡ normal_form (tree children.now)) }
     ensures normal { IfOk result (λ r. IsTrue (is_normal (tree r))) }

@@ -46,9 +46,6 @@ impl<T> NonEmptyStack<T> {
     }
 
     /// Returns a stack of one default item.
-    ///
-    /// # Errors
-    /// [`Memory`]: out of memory.
     pub fn with_default(alloc: Global) -> Result<Self, Memory>
     where
         T: Default + Drop,
@@ -58,9 +55,6 @@ impl<T> NonEmptyStack<T> {
     }
 
     /// Returns a stack of the items' clones, in order.
-    ///
-    /// # Errors
-    /// [`Memory`]: out of memory.
     pub fn clone(&self, alloc: Global) -> Result<Self, Memory>
     where
         T: Clone + Drop,

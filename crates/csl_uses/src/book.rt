@@ -35,9 +35,6 @@ pub fn the_c_book(alloc: Global) -> Result<Entry, Error>
 }
 
 /// The label of an entry, with up to three letters of one name.
-///
-/// # Errors
-/// [`Memory`]: out of memory.
 pub fn book_label(alloc: Global, book: &Entry) -> Result<String, Memory>
     ensures { IfOk result (λ made. string_bytes made ≡ label 3 book.now) }
 {

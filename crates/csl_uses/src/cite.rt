@@ -20,9 +20,6 @@ use csl::{CiteProperties, DisambiguateState, ElemChildren, EntryLike, Error, eng
 use std::alloc::Global;
 
 /// A book of three authors.
-///
-/// # Errors
-/// [`Error::Memory`]: out of memory.
 pub fn the_compilers_book(alloc: Global) -> Result<Entry, Error> {
     let aho = Person::new(alloc, "Aho", "Alfred V.")?;
     let sethi = Person::new(alloc, "Sethi", "Ravi")?;

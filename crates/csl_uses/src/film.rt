@@ -121,9 +121,6 @@ pub fn metropolis(alloc: Global) -> Result<Film, Error>
 }
 
 /// The title of an entry of any type, with its pieces joined. It is empty if the entry has none.
-///
-/// # Errors
-/// [`Memory`]: out of memory.
 pub fn title_of<T: EntryLike>(alloc: Global, entry: &T) -> Result<String, Memory>
     ensures { IfOk result (λ title. string_bytes title ≡ title_of (T.answers entry.now)) }
 {

@@ -36,9 +36,6 @@ fn base_of(letter: char) -> Option<&'static str> {
 
 /// The text in small letters, each Latin one without its accents. Texts of other scripts, and
 /// accents that are characters of their own, stay as they are.
-///
-/// # Errors
-/// [`Memory`]: out of memory.
 pub fn fold(alloc: Global, text: &str) -> Result<String, Memory> {
     let mut folded = String::new(alloc);
     let small = text.to_lowercase(alloc)?;

@@ -13,9 +13,6 @@ use std::alloc::Global;
 use url::{ParseError, Url};
 
 /// The content, with each link that leads to neither `http` nor `https` replaced by its text.
-///
-/// # Errors
-/// [`Memory`]: out of memory.
 pub fn with_web_links(alloc: Global, rendered: ElemChildren) -> Result<ElemChildren, Memory>
     ensures text { IfOk result (λ content.
         leaf_text (tokens content) ≡ leaf_text (tokens rendered)) }
@@ -73,9 +70,6 @@ fn is_web_address_of(alloc: Global, address: &str, hosts: &[&str]) -> Result<boo
 
 /// The content, with each link replaced by its text, unless it leads to a web page at one of these
 /// hosts. A host is in lower case and ASCII, as a parsed address has it.
-///
-/// # Errors
-/// [`Memory`]: out of memory.
 pub fn with_links_to(
     alloc: Global,
     rendered: ElemChildren,

@@ -92,9 +92,6 @@ pub fn count_new(lines: &[Line]) -> usize {
 }
 
 /// Gives the first work another title.
-///
-/// # Errors
-/// [`Memory`]: out of memory.
 pub fn rename_first(alloc: Global, works: &mut [Entry], title: &str) -> Result<(), Memory> {
     let title = FormatString::plain(alloc, title)?;
     if let Some(work) = works.first_mut() {
@@ -104,9 +101,6 @@ pub fn rename_first(alloc: Global, works: &mut [Entry], title: &str) -> Result<(
 }
 
 /// Writes a note about the first work. No style of the examples names it.
-///
-/// # Errors
-/// [`Memory`]: out of memory.
 pub fn annotate_first(alloc: Global, works: &mut [Entry], note: &str) -> Result<(), Memory> {
     let note = FormatString::plain(alloc, note)?;
     if let Some(work) = works.first_mut() {

@@ -15,6 +15,8 @@
 //! - `page`: a reference list as a whole web page, or lines with links to given hosts alone.
 //!
 //! `csl_uses` prints the output of each, and `csl_uses page` the web page alone.
+//!
+//! An error that the docs of a call do not explain means out of memory.
 #![tactic(auto)]
 
 mod book;

@@ -19,9 +19,6 @@ use csl::{
 use std::alloc::Global;
 
 /// A book of 2014 by a Miller with this given name. The given name is also the book's key.
-///
-/// # Errors
-/// [`Error::Memory`]: out of memory.
 pub fn book_by_miller(alloc: Global, given_name: &str) -> Result<Entry, Error> {
     let authors = vec![in alloc; Person::new(alloc, "Miller", given_name)?]?;
     let book = Entry::new(alloc, given_name, EntryType::Book)?

@@ -147,9 +147,6 @@ fn web_page(alloc: Global, author: Person, title: &str, address: &str) -> Result
 
 /// Three web pages. The title of the second is a script, and so is the address of the third, whose
 /// title would turn the direction of writing to the end of its line.
-///
-/// # Errors
-/// [`Error::Memory`]: out of memory.
 pub fn web_pages(alloc: Global) -> Result<Vec<WebPage>, Error> {
     let mut pages = Vec::with_capacity(alloc, 3)?;
 

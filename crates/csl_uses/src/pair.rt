@@ -17,9 +17,6 @@ use csl::{CiteProperties, DisambiguateState, EntryLike, Error, Pair};
 use std::alloc::Global;
 
 /// The novel `Metropolis`.
-///
-/// # Errors
-/// [`Error::Memory`]: out of memory.
 pub fn the_novel(alloc: Global) -> Result<Entry, Error> {
     let authors = vec![in alloc; Person::new(alloc, "von Harbou", "Thea")?]?;
     let novel = Entry::titled(alloc, "metropolis-novel", EntryType::Book, "Metropolis")?;

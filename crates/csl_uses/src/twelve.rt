@@ -110,9 +110,6 @@ fn work(alloc: Global, row: &Row) -> Result<Entry, Error> {
 }
 
 /// The twelve works. The title of each is also its key.
-///
-/// # Errors
-/// [`Error::Memory`]: out of memory.
 pub fn twelve_works(alloc: Global) -> Result<Vec<Entry>, Error> {
     let mut works = Vec::new(alloc);
     for row in &ROWS {
@@ -216,9 +213,6 @@ pub fn author_date_style(alloc: Global) -> Result<Style, Error> {
 }
 
 /// The sort key of the style, a call of the macro `author-year-title`.
-///
-/// # Errors
-/// [`Error::Memory`]: out of memory.
 pub fn sort_key(alloc: Global) -> Result<Layout, Error> {
     let call = Text::macro_call(alloc, "author-year-title")?;
     Ok(Layout::new(vec![in alloc; call.into()]?))

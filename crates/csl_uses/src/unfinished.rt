@@ -60,9 +60,6 @@ pub fn outside_style(alloc: Global) -> Result<Style, Error> {
 }
 
 /// The contents, finished by the rules of a style.
-///
-/// # Errors
-/// [`Error::Memory`]: out of memory.
 pub fn finished(alloc: Global, style: &Style) -> Result<Vec<ElemChildren>, Error> {
     let mut contents = Vec::new(alloc);
     for texts in &TEXTS {

@@ -12,9 +12,6 @@ use std::alloc::Global;
 
 impl ChunkedString {
     /// The whole text: the texts of the chunks, one after another.
-    ///
-    /// # Errors
-    /// [`Memory`]: out of memory.
     pub fn to_text(&self, alloc: Global) -> Result<String, Memory>
         ensures { IfOk result (λ text. string_bytes text ≡ chunks_text (chunks self.now)) }
     {

@@ -21,9 +21,6 @@ use std::alloc::Global;
 
 impl Entry {
     /// A copy, with copies of its parents.
-    ///
-    /// # Errors
-    /// [`Memory`]: out of memory.
     pub fn clone(&self, alloc: Global) -> Result<Entry, Memory>
         ensures { IfOk result (λ e. works e ≡ works self.now) }
     {

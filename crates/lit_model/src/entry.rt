@@ -142,9 +142,6 @@ impl Entry {
 
 impl Entry {
     /// An entry with only a key and a type.
-    ///
-    /// # Errors
-    /// [`Memory`]: out of memory.
     pub fn new(alloc: Global, key: &str, entry_type: EntryType) -> Result<Entry, Memory>
         ensures { IfOk result (IsBare key.now entry_type) }
     {

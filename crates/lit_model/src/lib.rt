@@ -1,4 +1,6 @@
 //! The literature model: the entries of a bibliography, and the texts of their parts.
+//!
+//! An error that the docs of a call do not explain means out of memory.
 #![tactic(auto)]
 
 mod chunks;

@@ -21,9 +21,6 @@ pub enum MaybeTyped<T> {
 
 impl MaybeTyped<Numeric> {
     /// A copy.
-    ///
-    /// # Errors
-    /// [`Memory`]: out of memory.
     pub fn clone(&self, alloc: Global) -> Result<MaybeTyped<Numeric>, Memory>
         ensures { IfOk result (λ copy. maybe_view numeric_view copy
             ≡ maybe_view numeric_view self.now) }
@@ -43,9 +40,6 @@ impl MaybeTyped<Numeric> {
 
 impl MaybeTyped<PageRanges> {
     /// A copy.
-    ///
-    /// # Errors
-    /// [`Memory`]: out of memory.
     pub fn clone(&self, alloc: Global) -> Result<MaybeTyped<PageRanges>, Memory>
         ensures { IfOk result (λ copy. maybe_view pages_view copy
             ≡ maybe_view pages_view self.now) }

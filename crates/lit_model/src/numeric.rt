@@ -73,9 +73,6 @@ impl Numeric {
     }
 
     /// A copy.
-    ///
-    /// # Errors
-    /// [`Memory`]: out of memory.
     pub fn clone(&self, alloc: Global) -> Result<Numeric, Memory>
         ensures { IfOk result (λ copy. numeric_view copy ≡ numeric_view self.now) }
     {
@@ -101,9 +98,6 @@ pub enum NumericValue {
 
 impl NumericValue {
     /// A copy.
-    ///
-    /// # Errors
-    /// [`Memory`]: out of memory.
     pub fn clone(&self, alloc: Global) -> Result<NumericValue, Memory>
         ensures { IfOk result (λ copy. value_view copy ≡ value_view self.now) }
     {

@@ -45,9 +45,6 @@ impl PageRanges {
     }
 
     /// A copy.
-    ///
-    /// # Errors
-    /// [`Memory`]: out of memory.
     pub fn clone(&self, alloc: Global) -> Result<PageRanges, Memory>
         ensures { IfOk result (λ copy. pages_view copy ≡ pages_view self.now) }
     {
@@ -87,9 +84,6 @@ impl PageRangesPart {
     }
 
     /// A copy.
-    ///
-    /// # Errors
-    /// [`Memory`]: out of memory.
     pub fn clone(&self, alloc: Global) -> Result<PageRangesPart, Memory>
         ensures { IfOk result (λ copy. part_view copy ≡ part_view self.now) }
     {

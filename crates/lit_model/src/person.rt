@@ -67,9 +67,6 @@ pub struct PersonsWithRoles {
 
 impl Person {
     /// A person with only a name and a given name.
-    ///
-    /// # Errors
-    /// [`Memory`]: out of memory.
     pub fn new(alloc: Global, name: &str, given_name: &str) -> Result<Person, Memory>
         ensures { IfOk result (λ person. person_view person ≡ person_of name.now given_name.now) }
     {
@@ -86,9 +83,6 @@ impl Person {
     }
 
     /// An institution, or a person with only one name.
-    ///
-    /// # Errors
-    /// [`Memory`]: out of memory.
     pub fn institution(alloc: Global, name: &str) -> Result<Person, Memory>
         ensures { IfOk result (λ person. person_view person ≡ institution_of name.now) }
     {
@@ -164,9 +158,6 @@ impl Person {
 
 impl Person {
     /// A copy.
-    ///
-    /// # Errors
-    /// [`Memory`]: out of memory.
     pub fn clone(&self, alloc: Global) -> Result<Person, Memory>
         ensures { IfOk result (λ p. person_view p ≡ person_view self.now) }
     {
@@ -188,9 +179,6 @@ impl Person {
 
 impl PersonRole {
     /// A copy.
-    ///
-    /// # Errors
-    /// [`Memory`]: out of memory.
     pub fn clone(&self, alloc: Global) -> Result<PersonRole, Memory>
         ensures { IfOk result (λ r. role_of r ≡ role_of self.now) }
     {
@@ -225,9 +213,6 @@ impl PersonRole {
 
 impl PersonsWithRoles {
     /// A copy.
-    ///
-    /// # Errors
-    /// [`Memory`]: out of memory.
     pub fn clone(&self, alloc: Global) -> Result<PersonsWithRoles, Memory>
         ensures { IfOk result (λ g. role_group g ≡ role_group self.now) }
     {

@@ -412,9 +412,6 @@ impl Entry {
     }
 
     /// The entry's own further persons with a role, in order.
-    ///
-    /// # Errors
-    /// [`Memory`]: out of memory.
     pub fn affiliated_with_role(
         &self,
         alloc: Global,

@@ -113,9 +113,6 @@ impl SerialNumber {
 
 impl Publisher {
     /// A publisher with only a name. The name is one text, without a short form.
-    ///
-    /// # Errors
-    /// [`Memory`]: out of memory.
     pub fn named(alloc: Global, name: &str) -> Result<Publisher, Memory>
         ensures { IfOk result (λ p. press_of p ≡ press_named name.now) }
     {
@@ -127,9 +124,6 @@ impl Publisher {
     }
 
     /// A copy.
-    ///
-    /// # Errors
-    /// [`Memory`]: out of memory.
     pub fn clone(&self, alloc: Global) -> Result<Publisher, Memory>
         ensures { IfOk result (λ p. press_of p ≡ press_of self.now) }
     {
@@ -141,9 +135,6 @@ impl Publisher {
 
 impl QualifiedUrl {
     /// A copy.
-    ///
-    /// # Errors
-    /// [`Memory`]: out of memory.
     pub fn clone(&self, _alloc: Global) -> Result<QualifiedUrl, Memory>
         ensures { IfOk result (λ u. address_of u ≡ address_of self.now) }
     {
@@ -157,9 +148,6 @@ impl QualifiedUrl {
 
 impl SerialNumber {
     /// A copy.
-    ///
-    /// # Errors
-    /// [`Memory`]: out of memory.
     pub fn clone(&self, _alloc: Global) -> Result<SerialNumber, Memory>
         ensures { IfOk result (λ s. serials s ≡ serials self.now) }
     {
@@ -170,9 +158,6 @@ impl SerialNumber {
 
 impl LanguageIdentifier {
     /// A copy.
-    ///
-    /// # Errors
-    /// [`Memory`]: out of memory.
     pub fn clone(&self, alloc: Global) -> Result<LanguageIdentifier, Memory>
         ensures { IfOk result (λ l. language_of l ≡ language_of self.now) }
     {

@@ -42,9 +42,6 @@ pub struct FormatString {
 
 impl ChunkedString {
     /// A text in one piece, which a style may change.
-    ///
-    /// # Errors
-    /// [`Memory`]: out of memory.
     pub fn plain(alloc: Global, text: &str) -> Result<ChunkedString, Memory>
         ensures { IfOk result (λ plain. chunks plain ≡ in_one_piece text.now) }
     {
@@ -58,9 +55,6 @@ impl ChunkedString {
 
 impl FormatString {
     /// A text in one piece, which a style may change, without a short form.
-    ///
-    /// # Errors
-    /// [`Memory`]: out of memory.
     pub fn plain(alloc: Global, text: &str) -> Result<FormatString, Memory>
         ensures { IfOk result (λ plain. format_string_view plain ≡ plain_forms text.now) }
     {
@@ -86,9 +80,6 @@ impl FormatString {
 
 impl StringChunk {
     /// A copy.
-    ///
-    /// # Errors
-    /// [`Memory`]: out of memory.
     pub fn clone(&self, alloc: Global) -> Result<StringChunk, Memory>
         ensures { IfOk result (λ c. chunk_of c ≡ chunk_of self.now) }
     {
@@ -102,9 +93,6 @@ impl StringChunk {
 
 impl ChunkedString {
     /// A copy.
-    ///
-    /// # Errors
-    /// [`Memory`]: out of memory.
     pub fn clone(&self, alloc: Global) -> Result<ChunkedString, Memory>
         ensures { IfOk result (λ t. chunks t ≡ chunks self.now) }
     {
@@ -118,9 +106,6 @@ impl ChunkedString {
 
 impl FormatString {
     /// A copy.
-    ///
-    /// # Errors
-    /// [`Memory`]: out of memory.
     pub fn clone(&self, alloc: Global) -> Result<FormatString, Memory>
         ensures { IfOk result (λ t. format_string_view t ≡ format_string_view self.now) }
     {

@@ -38,9 +38,6 @@ impl Group {
     }
 
     /// A group that sets only its delimiter and its children.
-    ///
-    /// # Errors
-    /// [`Memory`]: out of memory.
     #[tactic(auto, using(crate::proofs::Rolled::group_view))]
     pub fn delimited(
         alloc: Global,
@@ -78,9 +75,6 @@ impl Layout {
 
 impl CslMacro {
     /// A macro with this name and these children.
-    ///
-    /// # Errors
-    /// [`Memory`]: out of memory.
     pub fn new(
         alloc: Global,
         name: &str,

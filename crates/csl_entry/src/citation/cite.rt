@@ -107,9 +107,6 @@ impl DisambiguateState {
     ghost use Rattle.csl_entry.specs.Cite.{disambiguation_of};
 
     /// Returns an equal value.
-    ///
-    /// # Errors
-    /// [`Memory`]: out of memory.
     pub fn clone(&self, alloc: Global) -> Result<Self, Memory>
         ensures { IfOk result (λ copy. disambiguation_of copy ≡ disambiguation_of self.now) }
     {
@@ -153,9 +150,6 @@ impl<'s> CiteProperties<'s> {
     }
 
     /// Returns an equal value.
-    ///
-    /// # Errors
-    /// [`Memory`]: out of memory.
     pub fn clone(&self, alloc: Global) -> Result<CiteProperties<'s>, Memory>
         ensures { IfOk result (λ copy. cite_state copy ≡ cite_state self.now) }
     {
@@ -171,9 +165,6 @@ impl<'s> SpeculativeCiteProperties<'s> {
     ghost use Rattle.csl_entry.specs.Cite.{speculation};
 
     /// Returns an equal value.
-    ///
-    /// # Errors
-    /// [`Memory`]: out of memory.
     pub fn clone(&self, alloc: Global) -> Result<SpeculativeCiteProperties<'s>, Memory>
         ensures { IfOk result (λ copy. speculation copy ≡ speculation self.now) }
     {

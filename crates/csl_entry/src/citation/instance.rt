@@ -63,9 +63,6 @@ impl<'s, T: EntryLike> InstanceContext<'s, T> {
     /// answers three: the citation number plus one, the number of the first note that cites the
     /// entry, and the locator. The entry answers all others. The locator is a number if its text
     /// spells one.
-    ///
-    /// # Errors
-    /// [`Memory`]: out of memory.
     #[tactic(auto, using(crate::proofs::Looks::number_alike))]
     pub fn resolve_number_variable(
         &self,
@@ -107,9 +104,6 @@ impl<'s, T: EntryLike> InstanceContext<'s, T> {
     }
 
     /// Returns the cite's answer to a page variable, which is its entry's answer.
-    ///
-    /// # Errors
-    /// [`Memory`]: out of memory.
     pub fn resolve_page_variable(
         &self,
         alloc: Global,
@@ -123,9 +117,6 @@ impl<'s, T: EntryLike> InstanceContext<'s, T> {
 
     /// Returns the cite's answer to a variable that holds a number or pages: its answer to that
     /// number variable or page variable.
-    ///
-    /// # Errors
-    /// [`Memory`]: out of memory.
     pub fn resolve_number_or_page_variable(
         &self,
         alloc: Global,
@@ -153,9 +144,6 @@ impl<'s, T: EntryLike> InstanceContext<'s, T> {
     /// Returns the cite's answer to a standard variable (CSL 1.0.2, Standard Variables). The
     /// citation answers the year suffix, if the cite has one. The entry answers all other
     /// variables.
-    ///
-    /// # Errors
-    /// [`Memory`]: out of memory.
     #[tactic(auto, using(crate::proofs::Looks::standard_alike))]
     pub fn resolve_standard_variable(
         &self,
@@ -181,9 +169,6 @@ impl<'s, T: EntryLike> InstanceContext<'s, T> {
 
     /// Returns the cite's answer to a name variable, which is its entry's answer: the persons in
     /// order, or an empty list if there are none (CSL 1.0.2, Name Variables).
-    ///
-    /// # Errors
-    /// [`Memory`]: out of memory.
     pub fn resolve_name_variable(
         &self,
         alloc: Global,
@@ -197,9 +182,6 @@ impl<'s, T: EntryLike> InstanceContext<'s, T> {
 
     /// Returns the cite's answer to a date variable, which is its entry's answer (CSL 1.0.2, Date
     /// Variables).
-    ///
-    /// # Errors
-    /// [`Memory`]: out of memory.
     pub fn resolve_date_variable(
         &self,
         alloc: Global,

@@ -9,9 +9,6 @@ use std::alloc::Global;
 /// Returns word number `n` of the words over a to z, ordered by length and then by alphabet: `a` is
 /// number 0, `z` 25, `aa` 26 and `aaa` 702 (CSL 1.0.2, Disambiguation:
 /// disambiguate-add-year-suffix).
-///
-/// # Errors
-/// [`Memory`]: out of memory.
 pub fn letter(alloc: Global, n: u16) -> Result<String, Memory>
     ensures letters { IfOk result (λ s. string_bytes s ≡ letters n) }
     ensures word { IfOk result (λ s. IsWord (string_bytes s)) }

@@ -228,9 +228,6 @@ fn all(numbers: bool, pages: bool, standards: bool, names: bool, dates: bool, ki
 /// Whether both entries answer alike for each named variable and kind: equal numbers, pages, texts
 /// in the long and in the short form, persons and dates, and each kind of both or of neither. Other
 /// variables and kinds are not compared, nor are the key and the language.
-///
-/// # Errors
-/// [`Memory`]: out of memory.
 pub fn same_answers<T: EntryLike, U: EntryLike>(
     alloc: Global,
     a: &T,

@@ -9,9 +9,6 @@ use std::alloc::Global;
 
 /// Returns the text of a language (CSL 1.0.2, Standard Variables: language): the language, then `-`
 /// and the region if there is one, such as `en-US`.
-///
-/// # Errors
-/// [`Memory`]: out of memory.
 pub fn csl_language(alloc: Global, language: &LanguageIdentifier) -> Result<String, Memory>
     ensures { IfOk result (λ s. string_bytes s ≡ language_text (language_of language.now)) }
 {

@@ -68,9 +68,6 @@ impl NameDisambiguationProperties {
     }
 
     /// Returns an equal value.
-    ///
-    /// # Errors
-    /// [`Memory`]: out of memory.
     pub fn clone(&self, alloc: Global) -> Result<Self, Memory>
         ensures { IfOk result (λ copy. name_properties copy ≡ name_properties self.now) }
     {

@@ -47,9 +47,6 @@ impl Alphanumerical {
     /// the key. The year is that of the first date along the work and its parents, else that of the
     /// visit to the first address along them. The label has the year's last two digits, plus one if
     /// the year is 0 or less: year -99 gives `100`. Without a date there is no year.
-    ///
-    /// # Errors
-    /// [`Memory`]: out of memory.
     #[tactic(auto, using(crate::proofs::ShowSame::same_label))]
     pub fn citation(self, alloc: Global, entry: &Entry) -> Result<String, Memory>
         ensures value { IfOk result (λ s. string_bytes s ≡ label self.letters entry.now) }

@@ -15,9 +15,6 @@ use std::alloc::Global;
 
 impl Snapshot {
     /// Returns an equal snapshot.
-    ///
-    /// # Errors
-    /// [`Memory`]: out of memory.
     pub fn clone(&self, alloc: Global) -> Result<Snapshot, Memory>
         ensures { IfOk result (λ copy. kept_of copy ≡ kept_of self.now) }
     {

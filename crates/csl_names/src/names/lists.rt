@@ -167,10 +167,6 @@ pub fn peeked_lists<'s, T: EntryLike>(
 
 /// The lists of a names node with these variables for printing. Each lookup may suppress its
 /// variable.
-///
-/// # Errors
-/// [`RenderError::Memory`]: out of memory, here or in the entry. The context has failed.
-/// [`RenderError::Failed`]: the context had failed already.
 pub fn resolved_lists<'s, T: EntryLike>(
     ctx: &mut Context<'s, T>,
     variables: &[NameVariable],

@@ -170,10 +170,6 @@ fn push_affixed_body<T>(
 }
 
 /// Closes a part as the box of a names node with these lists.
-///
-/// # Errors
-/// [`RenderError::Memory`]: out of memory. The context has failed.
-/// [`RenderError::Failed`]: the context had failed already.
 pub fn commit_names<T>(
     ctx: &mut Context<'_, T>,
     mark: Mark,
@@ -192,10 +188,6 @@ pub fn commit_names<T>(
 /// Writes the box of a names node that has persons. It holds the affixed lists or, if the form is
 /// the count, the affixed number of names. The state keeps the forms of the first names that are
 /// not counted.
-///
-/// # Errors
-/// [`RenderError::Memory`]: out of memory. The context has failed.
-/// [`RenderError::Failed`]: the context had failed already.
 pub fn write_names<T>(
     ctx: &mut Context<'_, T>,
     parts: NamesParts<'_>,

@@ -20,9 +20,6 @@ use std::alloc::Global;
 impl Entry {
     /// An entry with only a key, a type and a title. The title is one text, which a style may
     /// change, without a short form.
-    ///
-    /// # Errors
-    /// [`Memory`]: out of memory.
     pub fn titled(
         alloc: Global,
         key: &str,
