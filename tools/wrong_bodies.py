@@ -193,7 +193,9 @@ class Check:
         """Marks the edits of which an error tells a goal that is open. Returns those of which one
         tells that they cannot be read."""
         unread = []
-        error_at = r"^(?:\./)?((?:src|proofs)/\S+?):(\d+):\d+: (error.*)"
+        # (after a long name the rest is on the next line)
+        error_at = (r"^(?:\./)?((?:src|proofs)/\S+?):(\d+):\d+: "
+                    rf"(error.*(?:\n  (?:{LOST_NAME}).*)?)")
         for file, line, error in re.findall(error_at, self.said, re.M):
             for edit in self.edits_at(file, int(line)):
                 if not file.startswith("proofs/"):
