@@ -114,3 +114,6 @@ no_term n name e a an al b bn bl c cn cl d dn dl o on ol (terms.Other v) h = let
 
 pub none_first : (n name : List ℕ) → n ≡ name → (a : Option NameVariable) → a ≡ None → ((v : NameVariable) → (a ≡ Some v) ↔ (n ≡ role_name v)) → (b : Option NumberVariable) → b ≡ None → ((v : NumberVariable) → (b ≡ Some v) ↔ (n ≡ number_name v)) → (c : Option PageVariable) → c ≡ None → ((v : PageVariable) → (c ≡ Some v) ↔ (n ≡ page_name v)) → (d : Option Locator) → d ≡ None → ((v : Locator) → (d ≡ Some v) ↔ (n ≡ locator_name v)) → (o : Option OtherTerm) → o ≡ None → ((x : OtherTerm) → (o ≡ Some x) ↔ (other_name x ≡ Some n)) → (t : Term) → (None ≡ Some t) ↔ IsTermOf name t
 none_first n name e a an al b bn bl c cn cl d dn dl o on ol t = (λ p. cc, λ h. no_term n name e a an al b bn bl c cn cl d dn dl o on ol t h.0)
+
+-- for a search through the five sorts in this order
+pub ruleset first_term_laws = (name_first, number_first, page_first, locator_first, other_first, none_first)

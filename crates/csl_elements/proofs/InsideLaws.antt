@@ -116,3 +116,18 @@ module _ {X : Type 0} (f : X → ℕ) where
 
   pub moved_most : (ps qs rs ts : List X) → ps ++ qs ≡ rs ++ ts → max (most f ps) (most f qs) ≡ max (most f rs) (most f ts)
   moved_most ps qs rs ts e = sym (most-append f ps qs) ∙ ap (most f) e ∙ most-append f rs ts
+
+-- ---- what the sources name
+
+-- for the lists inside a node, a branch and a child of names
+pub ruleset inside_laws = (count_in_group, count_in_names, count_in_choose, choose_is, depth_in_group, depth_in_names, depth_in_if, depth_in_else_if, depth_in_otherwise)
+
+pub ruleset branch_laws = (count_in_branch, depth_in_branch)
+
+pub ruleset child_laws = (count_in_substitute, depth_in_substitute)
+
+-- for a list that takes the items of another
+pub ruleset moved_laws = (moved_sum, moved_most)
+
+-- for the loop over the lists of one node after another
+pub ruleset nested_laws = (sums_append, mosts_append, some_node, some_child)

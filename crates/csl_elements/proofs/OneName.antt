@@ -113,3 +113,6 @@ no_variable n name e a an al b bn bl c cn cl d dn dl e5 en el (variables.Name v)
 
 pub none_given : (n name : List ℕ) → n ≡ name → (a : Option StandardVariable) → a ≡ None → ((v : StandardVariable) → (a ≡ Some v) ↔ (n ≡ standard_name v)) → (b : Option NumberVariable) → b ≡ None → ((v : NumberVariable) → (b ≡ Some v) ↔ (n ≡ number_name v)) → (c : Option PageVariable) → c ≡ None → ((v : PageVariable) → (c ≡ Some v) ↔ (n ≡ page_name v)) → (d : Option DateVariable) → d ≡ None → ((v : DateVariable) → (d ≡ Some v) ↔ (n ≡ date_name v)) → (e5 : Option NameVariable) → e5 ≡ None → ((v : NameVariable) → (e5 ≡ Some v) ↔ (n ≡ name_variable_name v)) → (w : Variable) → (None ≡ Some w) ↔ (name ≡ variable_name w)
 none_given n name e a an al b bn bl c cn cl d dn dl e5 en el w = (λ p. cc, no_variable n name e a an al b bn bl c cn cl d dn dl e5 en el w)
+
+-- for a search for the variable of a name
+pub ruleset given_laws = (standard_given, number_given, page_given, date_given, name_given, none_given)

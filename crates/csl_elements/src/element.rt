@@ -41,7 +41,7 @@ pub enum LayoutRenderingElement {
 /// Where nodes beside each other need memory and there is none, one list drops by recursion.
 impl Drop for LayoutRenderingElement {
     #[cycle(element)]
-    #[tactic(auto, using(crate::proofs::InsideLaws::sums_append, crate::proofs::InsideLaws::mosts_append, crate::proofs::InsideLaws::some_node, crate::proofs::InsideLaws::some_child))]
+    #[tactic(auto, using(crate::proofs::InsideLaws::nested_laws))]
     fn drop(self) {
         let Some(inside) = self.into_inside() else {
             return;
@@ -106,7 +106,7 @@ fn append<T>(list: &mut Vec<T>, mut more: Vec<T>) -> Vec<T>
 }
 
 /// Moves nodes to the end of a list, or returns them if there is no memory.
-#[tactic(auto, using(crate::proofs::InsideLaws::moved_sum, crate::proofs::InsideLaws::moved_most))]
+#[tactic(auto, using(crate::proofs::InsideLaws::moved_laws))]
 fn append_nodes(
     list: &mut Vec<LayoutRenderingElement>,
     more: Vec<LayoutRenderingElement>,
@@ -119,7 +119,7 @@ fn append_nodes(
 }
 
 /// Moves branches to the end of a list, or returns them if there is no memory.
-#[tactic(auto, using(crate::proofs::InsideLaws::moved_sum, crate::proofs::InsideLaws::moved_most))]
+#[tactic(auto, using(crate::proofs::InsideLaws::moved_laws))]
 fn append_branches(list: &mut Vec<ChooseBranch>, more: Vec<ChooseBranch>) -> Vec<ChooseBranch>
     ensures count { branch_counts list.new.items + branch_counts result.items ≡ branch_counts list.old.items + branch_counts more.items }
     ensures depth { max (branch_depths list.new.items) (branch_depths result.items)
@@ -129,7 +129,7 @@ fn append_branches(list: &mut Vec<ChooseBranch>, more: Vec<ChooseBranch>) -> Vec
 }
 
 /// Moves children of names to the end of a list, or returns them if there is no memory.
-#[tactic(auto, using(crate::proofs::InsideLaws::moved_sum, crate::proofs::InsideLaws::moved_most))]
+#[tactic(auto, using(crate::proofs::InsideLaws::moved_laws))]
 fn append_children(list: &mut Vec<NamesChild>, more: Vec<NamesChild>) -> Vec<NamesChild>
     ensures count { child_counts list.new.items + child_counts result.items ≡ child_counts list.old.items + child_counts more.items }
     ensures depth { max (child_depths list.new.items) (child_depths result.items)
@@ -140,7 +140,7 @@ fn append_children(list: &mut Vec<NamesChild>, more: Vec<NamesChild>) -> Vec<Nam
 
 impl LayoutRenderingElement {
     /// The lists inside, if the node may hold nodes. Everything else is dropped.
-    #[tactic(auto, using(crate::proofs::InsideLaws::count_in_group, crate::proofs::InsideLaws::count_in_names, crate::proofs::InsideLaws::count_in_choose, crate::proofs::InsideLaws::choose_is, crate::proofs::InsideLaws::depth_in_group, crate::proofs::InsideLaws::depth_in_names, crate::proofs::InsideLaws::depth_in_if, crate::proofs::InsideLaws::depth_in_else_if, crate::proofs::InsideLaws::depth_in_otherwise))]
+    #[tactic(auto, using(crate::proofs::InsideLaws::inside_laws))]
     fn into_inside(self) -> Option<Inside>
         ensures count { IfSome result (λ inside. inside_count inside < node_count self) }
         ensures depth { IfSome result (λ inside. inside_depth inside < node_depth self) }
@@ -209,7 +209,7 @@ impl LayoutRenderingElement {
 
 impl ChooseBranch {
     /// The nodes of the branch. Its tests are dropped.
-    #[tactic(auto, using(crate::proofs::InsideLaws::count_in_branch, crate::proofs::InsideLaws::depth_in_branch))]
+    #[tactic(auto, using(crate::proofs::InsideLaws::branch_laws))]
     fn into_nodes(self) -> Vec<LayoutRenderingElement>
         ensures count { node_counts result.items < branch_count self }
         ensures depth { node_depths result.items < branch_depth self }
@@ -231,7 +231,7 @@ impl ChooseBranch {
 
 impl NamesChild {
     /// The nodes of a substitute. Any other child is dropped.
-    #[tactic(auto, using(crate::proofs::InsideLaws::count_in_substitute, crate::proofs::InsideLaws::depth_in_substitute))]
+    #[tactic(auto, using(crate::proofs::InsideLaws::child_laws))]
     fn into_nodes(self) -> Option<Vec<LayoutRenderingElement>>
         ensures count { IfSome result (λ nodes. node_counts nodes.items < child_count self) }
         ensures depth { IfSome result (λ nodes. node_depths nodes.items < child_depth self) }

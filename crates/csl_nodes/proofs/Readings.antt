@@ -71,3 +71,6 @@ tests_out b = rw (fold_out-ChooseBranch Node NamesChildView Node BranchView Node
 -- before the first read, all conditions of a branch remain
 pub all_left : (w : RenderInput) (s : State) (b : ChooseBranch) → conditions_from w s (tests_of b) arm.Disambiguate 0 ≡ conditions w s (view_branch b).tests
 all_left w s b = ap (conditions w s) (tests_out b)
+
+-- for the iterator's next condition
+pub ruleset reading_laws = (read_here, read_on, read_out, arms_fall)

@@ -155,7 +155,7 @@ impl<'a, 's, T: EntryLike> Iterator for BranchConditionIter<'a, 's, T> {
 
     ghost remaining = { item_count (remaining_conditions T.answers) };
 
-    #[tactic(auto, using(crate::proofs::Readings::read_here, crate::proofs::Readings::read_on, crate::proofs::Readings::read_out, crate::proofs::Readings::arms_fall))]
+    #[tactic(auto, using(crate::proofs::Readings::reading_laws))]
     fn next(&mut self) -> Option<Result<bool, RenderError>> {
         if self.ended {
             return None;

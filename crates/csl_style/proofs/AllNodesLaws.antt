@@ -236,3 +236,16 @@ module _ (env : List ℕ → Option ExpandedNodes) where
 
   pub some_cost : (n : Node) → 0 < own_cost n
   some_cost n = omega arith
+
+-- ---- what the sources name
+
+-- for the nodes inside a choice and a names node
+pub ruleset choose_laws = (branch_left, no_branch_left, choose_inside, joined)
+
+pub ruleset names_laws = (child_left, no_child_left, names_inside, joined)
+
+-- for the next node of a walk
+pub ruleset next_laws = (first_left, empty_left)
+
+-- for the search for the year suffix
+pub ruleset year_suffix_laws = (all_has, own_append, costs_append, all_cost, some_cost)

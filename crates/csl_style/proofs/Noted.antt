@@ -116,3 +116,6 @@ nothing_at n a b c d e f (a_kind k) = ap (list_any (is_at (cmp_kind.it k))) f
 
 pub has_nothing : (n : Named) → IsEmpty n.numbers → IsEmpty n.pages → IsEmpty n.standards → IsEmpty n.names → IsEmpty n.dates → IsEmpty n.kinds → named_set n ≡ empty_named_set
 has_nothing n a b c d e f = λ i q. nothing_at n a b c d e f q i
+
+-- for the insertion of a variable
+pub ruleset noted_laws = (not_noted, number_noted, page_noted, standard_noted, name_noted, date_noted)

@@ -40,7 +40,7 @@ impl<'s> NodesLeft<'s> {
     }
 
     /// Puts the nodes inside a choose before the others.
-    #[tactic(auto, using(crate::proofs::AllNodesLaws::branch_left, crate::proofs::AllNodesLaws::no_branch_left, crate::proofs::AllNodesLaws::choose_inside, crate::proofs::AllNodesLaws::joined))]
+    #[tactic(auto, using(crate::proofs::AllNodesLaws::choose_laws))]
     fn push_branches(&mut self, choose: &'s Choose) -> Result<(), AllocError>
         ensures { OnOk result (nodes_left self.new.lists.items
             ≡ nodes_inside (view_choose choose.now) ++ nodes_left self.old.lists.items) }
@@ -68,7 +68,7 @@ impl<'s> NodesLeft<'s> {
     }
 
     /// Puts the nodes inside a names node before the others. They are those of its substitutes.
-    #[tactic(auto, using(crate::proofs::AllNodesLaws::child_left, crate::proofs::AllNodesLaws::no_child_left, crate::proofs::AllNodesLaws::names_inside, crate::proofs::AllNodesLaws::joined))]
+    #[tactic(auto, using(crate::proofs::AllNodesLaws::names_laws))]
     fn push_substitutes(&mut self, names: &'s Names) -> Result<(), AllocError>
         ensures { OnOk result (nodes_left self.new.lists.items
             ≡ nodes_inside (view_names names.now) ++ nodes_left self.old.lists.items) }
@@ -98,7 +98,7 @@ impl<'s> NodesLeft<'s> {
     }
 
     /// Takes the next node.
-    #[tactic(auto, using(crate::proofs::AllNodesLaws::first_left, crate::proofs::AllNodesLaws::empty_left))]
+    #[tactic(auto, using(crate::proofs::AllNodesLaws::next_laws))]
     pub(crate) fn next(&mut self) -> Result<Option<&'s LayoutRenderingElement>, AllocError>
         ensures next { IfOk result (λ next. IfSome next (λ node. nodes_left self.old.lists.items
             ≡ view_node node.now ∷ nodes_left self.new.lists.items)) }

@@ -39,7 +39,7 @@ fn empty_named(alloc: Global) -> Named
 }
 
 /// Adds a variable, unless the citation answers it.
-#[tactic(auto, using(crate::proofs::Noted::not_noted, crate::proofs::Noted::number_noted, crate::proofs::Noted::page_noted, crate::proofs::Noted::standard_noted, crate::proofs::Noted::name_noted, crate::proofs::Noted::date_noted))]
+#[tactic(auto, using(crate::proofs::Noted::noted_laws))]
 fn note(named: &mut Named, variable: Variable) -> Result<(), Memory>
     ensures { OnOk result (Adds (the_variable variable) named.old named.new) }
 {
@@ -75,10 +75,10 @@ fn note_kind(named: &mut Named, kind: Kind) -> Result<(), Memory>
     Ok(())
 }
 
-/// Adds nothing to the named variables and kinds.
+/// Adds nothing. The named variables and kinds are for the clause alone.
 #[tactic(auto, using(crate::proofs::NamedNodes::adds_nothing))]
-fn add_nothing(named: &mut Named) -> Result<(), Memory>
-    ensures { OnOk result (Adds empty_named_set named.old named.new) }
+fn add_nothing(_named: &mut Named) -> Result<(), Memory>
+    ensures { OnOk result (Adds empty_named_set _named.old _named.new) }
 {
     Ok(())
 }

@@ -149,7 +149,7 @@ fn is_suffix_text(node: &LayoutRenderingElement) -> bool
 
 /// Whether a text of the year suffix is in any of the elements, at any depth, or in a macro that they
 /// reach. The nodes of a macro that is not known yet are gone through in its place.
-#[tactic(auto, using(crate::proofs::AllNodesLaws::all_has, crate::proofs::AllNodesLaws::own_append, crate::proofs::AllNodesLaws::costs_append, crate::proofs::AllNodesLaws::all_cost, crate::proofs::AllNodesLaws::some_cost))]
+#[tactic(auto, using(crate::proofs::AllNodesLaws::year_suffix_laws))]
 fn any_has_year_suffix<'s>(
     alloc: Global,
     search: &Search<'s>,

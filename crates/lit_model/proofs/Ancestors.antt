@@ -34,3 +34,6 @@ parents_fall e = omega (arith, size_is-Entry e)
 
 pub most_appended : (xs ys : List Entry) → most size (xs ++ ys) ≡ max (most size xs) (most size ys)
 most_appended xs ys = most-append size xs ys
+
+-- for the loop that drops parents
+pub ruleset lineage_laws = (lineage_out, lineages_append, parents_fall, most_appended)

@@ -87,7 +87,7 @@ pub struct Entry {
 /// Drops the parents, and theirs, in a loop: a long chain of parents takes no stack and no memory.
 /// Where entries with several parents need memory and there is none, one list drops by recursion.
 impl Drop for Entry {
-    #[tactic(auto, using(crate::proofs::Ancestors::lineage_out, crate::proofs::Ancestors::lineages_append, crate::proofs::Ancestors::parents_fall, crate::proofs::Ancestors::most_appended))]
+    #[tactic(auto, using(crate::proofs::Ancestors::lineage_laws))]
     fn drop(self) {
         let mut remaining = self.into_parents();
         while let Some(entry) = remaining.pop() {

@@ -347,7 +347,7 @@ impl NameVariable {
 impl Variable {
     /// The variable of this name, such as `container-title`, if there is one. A name variable may
     /// be spelled `editor-translator` or `editortranslator`.
-    #[tactic(auto, using(crate::proofs::OneName::standard_given, crate::proofs::OneName::number_given, crate::proofs::OneName::page_given, crate::proofs::OneName::date_given, crate::proofs::OneName::name_given, crate::proofs::OneName::none_given))]
+    #[tactic(auto, using(crate::proofs::OneName::given_laws))]
     pub fn from_name(name: &str) -> Option<Variable>
         ensures { (variable : Variable) → (result ≡ Some variable)
             ↔ (variable_spelling name.now ≡ variable_name variable) }

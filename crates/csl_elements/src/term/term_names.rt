@@ -185,7 +185,7 @@ impl Term {
     /// variable then comes before that of a locator, which `Locator::from_name` finds, and both
     /// come before any other. The term of editors who translate may be spelled `editortranslator`
     /// or `editor-translator`.
-    #[tactic(auto, using(crate::proofs::FirstTerm::name_first, crate::proofs::FirstTerm::number_first, crate::proofs::FirstTerm::page_first, crate::proofs::FirstTerm::locator_first, crate::proofs::FirstTerm::other_first, crate::proofs::FirstTerm::none_first))]
+    #[tactic(auto, using(crate::proofs::FirstTerm::first_term_laws))]
     pub fn from_name(name: &str) -> Option<Term>
         ensures { (term : Term) → (result ≡ Some term) ↔ IsTermOf (term_spelling name.now) term }
     {
