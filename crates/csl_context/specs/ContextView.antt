@@ -25,6 +25,7 @@ use Rattle.csl_elements.specs.declared.formatting.Formatting as partial
 use Rattle.csl_style.specs.declared.style.settings.Scope.{Scope}
 use Rattle.csl_elements.specs.declared.taxonomy.Variable.{Variable}
 use Rattle.csl_elements.specs.NameOptions.{PartialOptions, apply_options}
+use Rattle.csl_elements.specs.VariableSet.{no_variables}
 use Rattle.csl_style.specs.Scopes.{base_options}
 use Rattle.csl_style.specs.Style.{StyleParts}
 use Rattle.csl_tree.specs.declared.formatting.Formatting.{Formatting}
@@ -77,7 +78,7 @@ render_input answers now = record { style = now.style; scope = now.scope; instan
 -- ---- a new context
 
 abbrev pub initial_state : State
-initial_state = record { suppressed = []; suppressing = false; first_date_seen = false; first_names = None }
+initial_state = record { suppressed = no_variables; suppressing = false; first_date_seen = false; first_names = None }
 
 abbrev pub base_inherited : StyleParts → Scope → Inherited
 base_inherited style scope = record {

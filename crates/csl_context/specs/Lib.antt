@@ -7,5 +7,6 @@ pub mod RenderInput
 pub mod Texts
 pub mod Quotes
 pub mod ContextView
+pub mod ContextState
 pub mod LeftState
 pub mod Bodies

@@ -6,36 +6,28 @@
 -- texts lose their periods (Formatting, Delimiter, Inheritable Name Options, Quotes,
 -- Strip-periods). Only the parity of quotes counts, so no depth grows too large.
 use Rattle.std.specs.Prelude.{ℕ, Bool, List, Option, if◌then◌else◌}
-use Rattle.std.specs.BTreeSet.{insert_key}
-use Rattle.std.specs.BTreeMap.{is_at}
-use Rattle.std.specs.List.{list_any}
-use Rattle.std.specs.declared.cmp.Ordering.{Ordering}
 use Rattle.csl_elements.specs.declared.formatting.Formatting as partial
 use Rattle.csl_elements.specs.declared.taxonomy.Variable.{Variable}
-use Rattle.csl_elements.specs.contracts.taxonomy.VariableOrd.TheImpl.{cmp-value}
 use Rattle.csl_elements.specs.NameOptions.{PartialOptions}
+use Rattle.csl_elements.specs.VariableSet.{with_variable}
 use Rattle.csl_tree.specs.declared.formatting.Formatting.{Formatting}
 use Rattle.csl_tree.specs.Formatting.{apply_formatting}
 use Rattle.csl_entry.specs.NameProperties.{NameProperties}
 
--- The suppressed variables; whether a lookup for printing suppresses its variable; whether a date
--- was rendered, even to nothing; the forms of the names that were printed first.
+-- The set of the suppressed variables; whether a lookup for printing suppresses its variable;
+-- whether a date was rendered, even to nothing; the forms of the names that were printed first.
 pub record State : Type 0 where
-  pub suppressed : List Variable
+  pub suppressed : Variable → Bool
   pub suppressing : Bool
   pub first_date_seen : Bool
   pub first_names : Option NameProperties
 
--- the order of all variables
-abbrev pub variable_cmp : Variable → Variable → Ordering
-variable_cmp = cmp-value.it
-
 abbrev pub is_suppressed : State → Variable → Bool
-is_suppressed s v = list_any (is_at (variable_cmp v)) s.suppressed
+is_suppressed s v = s.suppressed v
 
 -- the state after a lookup for printing: if the switch is on, the variable is suppressed
 abbrev pub state_after_resolve : Variable → State → State
-state_after_resolve v s = record s { suppressed = if s.suppressing then insert_key variable_cmp s.suppressed v else s.suppressed }
+state_after_resolve v s = record s { suppressed = if s.suppressing then with_variable v s.suppressed else s.suppressed }
 
 -- The formatting; the delimiter between children, if any; the options of names that are set;
 -- whether an odd number of quotes is around it; whether its texts lose their periods.

@@ -7,10 +7,12 @@ ghost use Rattle.csl_tree.specs.Content.{IsContent};
 ghost use Rattle.csl_tree.specs.Tokens.{tokens};
 ghost use Rattle.csl_entry.specs.Cite.{cite_state};
 ghost use Rattle.csl_entry.specs.NameProperties.{name_properties};
+ghost use Rattle.csl_context.specs.ContextState.{context_state_view};
 ghost use Rattle.csl_context.specs.ContextView.{Gives, new_context, initial_state};
 ghost use Rattle.csl_context.specs.LeftState.{left_state_view};
 
 use crate::error::RenderError;
+use crate::state::ContextState;
 use csl_entry::{InstanceContext, NameDisambiguationProperties, Sorting, SpecialForm};
 use csl_style::{InheritedNameOptions, Scope, Style, Variable};
 use csl_tree::{ElemChildren, FlatTree, Formatting};
@@ -42,7 +44,7 @@ pub struct WritingContext<'s> {
     pub(crate) outer_options: Vec<InheritedNameOptions<'s>>,
     pub(crate) in_quotes: bool,
     pub(crate) strip_periods: bool,
-    pub(crate) state: LeftState,
+    pub(crate) state: ContextState,
     pub(crate) failed: bool,
 }
 
@@ -52,14 +54,16 @@ impl<'s, T> Model for Context<'s, T> {
     ghost use Rattle.csl_elements.specs.contracts.element.CslMacro as of_macro;
     ghost use Rattle.csl_elements.specs.contracts.element.Layout as of_layout;
     ghost use Rattle.csl_elements.specs.NameOptions.{inherited_options};
+    ghost use Rattle.csl_elements.specs.SetCode.{set_code};
     ghost use Rattle.csl_entry.specs.Cite.{cite_state};
     ghost use Rattle.csl_context.specs.Contents.{HasContents};
-    ghost use Rattle.csl_context.specs.LeftState.{left_state_view};
+    ghost use Rattle.csl_context.specs.ContextState.{context_state_view};
     ghost use Rattle.csl_context.specs.ContextView.{ContextView};
 
     ghost Value = { ContextView T };
 
-    ghost coded = { Prim.hlevel (codes, of_macro.the_row.coded, of_layout.the_row.coded) };
+    ghost coded = { Prim.hlevel
+        (codes, set_code, of_macro.the_row.coded, of_layout.the_row.coded) };
 
     ghost view = { λ c. record {
       style = c.style.now;
@@ -80,7 +84,7 @@ impl<'s, T> Model for Context<'s, T> {
       formats = reverse c.writing.formats.items;
       delimiters = reverse (map (option_map (λ t. t.now)) c.writing.delimiters.items);
       options = reverse (map inherited_options c.writing.outer_options.items);
-      state = left_state_view c.writing.state;
+      state = context_state_view c.writing.state;
       failed = c.writing.failed;
     } };
 
@@ -108,7 +112,7 @@ pub struct Rendered {
 }
 
 /// A copy of the properties, if there are any.
-fn copy_names(
+pub(crate) fn copy_names(
     alloc: Global,
     names: &Option<NameDisambiguationProperties>,
 ) -> Result<Option<NameDisambiguationProperties>, Memory>
@@ -172,11 +176,11 @@ fn begin<'s, T>(
     style: &'s Style,
     instance: InstanceContext<'s, T>,
     scope: Scope,
-    state: LeftState,
+    state: ContextState,
 ) -> Context<'s, T>
     ensures { result ≡ new_context style.now scope instance.entry.entry.now
         (cite_state instance.entry.cite_props.now) instance.entry.sorting instance.entry.kind
-        (left_state_view state) }
+        (context_state_view state) }
 {
     Context {
         style,
@@ -211,7 +215,7 @@ impl<'s, T> Context<'s, T> {
             (cite_state instance.entry.cite_props.now) instance.entry.sorting instance.entry.kind
             initial_state) }
     {
-        Ok(begin(alloc, style, instance, scope, LeftState::new(alloc)))
+        Ok(begin(alloc, style, instance, scope, ContextState::new()))
     }
 
     /// Creates a context with only the root open, no content and the state that another rendering
@@ -227,7 +231,7 @@ impl<'s, T> Context<'s, T> {
             (cite_state instance.entry.cite_props.now) instance.entry.sorting instance.entry.kind
             (left_state_view start.now)) }
     {
-        let state = start.clone(alloc)?;
+        let state = ContextState::of(alloc, start)?;
         Ok(begin(alloc, style, instance, scope, state))
     }
 
@@ -247,11 +251,9 @@ impl<'s, T> Context<'s, T> {
     {
         self.ensure_live()?;
         let writing = self.writing;
+        let state = writing.state.into_left(writing.alloc)?;
         let content = writing.content.finish()?;
-        Ok(Rendered {
-            content,
-            state: writing.state,
-        })
+        Ok(Rendered { content, state })
     }
 
     /// Marks the context as failed.

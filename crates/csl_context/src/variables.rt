@@ -145,7 +145,7 @@ impl<'s, T: EntryLike> Context<'s, T> {
         ensures after { Runs (after_resolve (Variable.Number variable)) result self.old self.new }
     {
         let found = self.settle(self.peek_number_variable(variable))?;
-        self.suppress_if_queried(Variable::Number(variable))?;
+        self.suppress_if_queried(Variable::Number(variable));
         Ok(found)
     }
 
@@ -160,7 +160,7 @@ impl<'s, T: EntryLike> Context<'s, T> {
         ensures after { Runs (after_resolve (Variable.Page variable)) result self.old self.new }
     {
         let found = self.settle(self.peek_page_variable(variable))?;
-        self.suppress_if_queried(Variable::Page(variable))?;
+        self.suppress_if_queried(Variable::Page(variable));
         Ok(found)
     }
 
@@ -177,7 +177,7 @@ impl<'s, T: EntryLike> Context<'s, T> {
         ensures after { Runs (after_resolve (Variable.Standard variable)) result self.old self.new }
     {
         let found = self.settle(self.peek_standard_variable(form, variable))?;
-        self.suppress_if_queried(Variable::Standard(variable))?;
+        self.suppress_if_queried(Variable::Standard(variable));
         Ok(found)
     }
 
@@ -192,7 +192,7 @@ impl<'s, T: EntryLike> Context<'s, T> {
         ensures after { Runs (after_resolve (Variable.Name variable)) result self.old self.new }
     {
         let found = self.settle(self.peek_name_variable(variable))?;
-        self.suppress_if_queried(Variable::Name(variable))?;
+        self.suppress_if_queried(Variable::Name(variable));
         Ok(found)
     }
 
@@ -207,7 +207,7 @@ impl<'s, T: EntryLike> Context<'s, T> {
         ensures after { Runs (after_resolve (Variable.Date variable)) result self.old self.new }
     {
         let found = self.settle(self.peek_date_variable(variable))?;
-        self.suppress_if_queried(Variable::Date(variable))?;
+        self.suppress_if_queried(Variable::Date(variable));
         Ok(found)
     }
 

@@ -7,6 +7,7 @@ pub mod NamesChildren
 pub mod Rolled
 pub mod Sets
 pub mod VariableSets
+pub mod OrderedSets
 pub mod Options
 pub mod Injective
 pub mod ByName

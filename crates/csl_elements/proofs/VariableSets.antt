@@ -19,6 +19,7 @@ use Rattle.csl_elements.specs.contracts.taxonomy.NumberVariable as of_number
 use Rattle.csl_elements.specs.contracts.taxonomy.PageVariable as of_page
 use Rattle.csl_elements.specs.contracts.taxonomy.StandardVariable as of_standard
 use Rattle.csl_elements.specs.contracts.taxonomy.VariableOrd.TheImpl.{cmp-value as cmp_variable}
+use Rattle.csl_elements.specs.contracts.taxonomy.VariablePartialEq.TheImpl.{eq-value as eq_variable}
 use Rattle.csl_elements.specs.declared.taxonomy.DateVariable.{DateVariable}
 use Rattle.csl_elements.specs.declared.taxonomy.NameVariable.{NameVariable}
 use Rattle.csl_elements.specs.declared.taxonomy.NumberVariable.{NumberVariable}
@@ -28,9 +29,9 @@ use Rattle.csl_elements.specs.declared.taxonomy.StandardVariable.{StandardVariab
 use Rattle.csl_elements.specs.declared.taxonomy.Variable.{Variable}
 use Rattle.csl_elements.specs.declared.taxonomy.Variable.TheVariants as variable
 use Rattle.csl_elements.specs.declared.variable_set.VariableSet.{VariableSet}
-use Rattle.csl_elements.specs.VariableSet.{place, has, Has, AreAlikeOn}
+use Rattle.csl_elements.specs.VariableSet.{place, has, AreAlikeOn, with_variable}
 use Rattle.csl_elements.proofs.Sets.{or_left, or_right}
-use Rattle.csl_elements.proofs.Variables.{variable_ordered}
+use Rattle.csl_elements.proofs.Variables.{variable_decides, variable_ordered}
 
 -- ---- no two variables share a place
 
@@ -128,6 +129,17 @@ variable_at i below =
       | inr on ↦ elim (cases_lt i 64) as (λ _. IsTaken i) [ inl number ↦ number_at i on number | inr from ↦ above_number i from below ]
     ]
 
+-- ---- booleans
+
+pub both_or_none : (a b : Bool) → (a ≡ true → b ≡ true) → (b ≡ true → a ≡ true) → a ≡ b
+both_or_none true b f g = sym (f refl)
+both_or_none false true f g = g refl
+both_or_none false false f g = refl
+
+one_of : (a b : Bool) → (a || b) ≡ true → (a ≡ true) ⊎ (b ≡ true)
+one_of true b h = inl refl
+one_of false b h = inr h
+
 -- ---- bits
 
 same_bit : (x y : ℕ) → x < 2 → y < 2 → (x == 1) ≡ (y == 1) → x ≡ y
@@ -166,7 +178,7 @@ module _ (bits : ℕ) (u : Variable) where
   still_set : (i : ℕ) → bit_at bits i ≡ 1 → bit_at More i ≡ 1
   still_set i e = omega (arith, bit_at_or bits (1 * 2 ^ place u % 340282366920938463463374607431768211456) i, bit_at-lt More i, e)
 
-  pub with_bit : (v : Variable) → ((bit_at More (place v) == 1) ≡ true) ↔ ((v ≡ u) ⊎ ((bit_at bits (place v) == 1) ≡ true))
+  with_bit : (v : Variable) → ((bit_at More (place v) == 1) ≡ true) ↔ ((v ≡ u) ⊎ ((bit_at bits (place v) == 1) ≡ true))
   with_bit v = (
     λ h. elim (cases_eq (place v) (place u)) as (λ _. (v ≡ u) ⊎ ((bit_at bits (place v) == 1) ≡ true)) [
       | inl same ↦ inl (place_one v u same)
@@ -177,6 +189,17 @@ module _ (bits : ℕ) (u : Variable) where
       | inr has ↦ eq-eqb (bit_at More (place v)) 1 (still_set (place v) (eqb-true (bit_at bits (place v)) 1 has))
     ],
   )
+
+  -- the bit of a variable is set exactly if it is this variable, or was set before
+  pub bit_with : (v : Variable) → (bit_at More (place v) == 1) ≡ (eq_variable.it v u || (bit_at bits (place v) == 1))
+  bit_with v =
+      let before = bit_at bits (place v) == 1 in
+      both_or_none (bit_at More (place v) == 1) (eq_variable.it v u || before)
+      (λ h. elim ((with_bit v).0 h) as (λ _. (eq_variable.it v u || before) ≡ true) [
+        | inl same ↦ or_left (eq_variable.it v u) before ((variable_decides v u).1 same)
+        | inr there ↦ or_right (eq_variable.it v u) before there
+      ])
+      (λ h. (with_bit v).1 (elim (one_of (eq_variable.it v u) before h) as (λ _. (v ≡ u) ⊎ (before ≡ true)) [ inl e ↦ inl ((variable_decides v u).0 e) | inr there ↦ inr there ]))
 
 -- the bits at places of variables that differ in two numbers, of those of a third
 module _ (a b r : ℕ) where
@@ -230,35 +253,28 @@ is_equal Less h = cc
 is_equal Equal h = refl
 is_equal Greater h = cc
 
-both_or_none : (a b : Bool) → (a ≡ true → b ≡ true) → (b ≡ true → a ≡ true) → a ≡ b
-both_or_none true b f g = sym (f refl)
-both_or_none false true f g = g refl
-both_or_none false false f g = refl
+-- the order finds a variable exactly if it is the same
+pub same_by_order : (v u : Variable) → is_at (cmp_variable.it v) u ≡ eq_variable.it v u
+same_by_order v u =
+    both_or_none (is_at (cmp_variable.it v) u) (eq_variable.it v u)
+    (λ h. (variable_decides v u).1 ((variable_ordered v u).0 (is_equal (cmp_variable.it v u) h)))
+    (λ h. ap is_eq ((variable_ordered v u).1 ((variable_decides v u).0 h)))
 
-one_of : (a b : Bool) → (a || b) ≡ true → (a ≡ true) ⊎ (b ≡ true)
-one_of true b h = inl refl
-one_of false b h = inr h
+pub same_either_way : (v u : Variable) → eq_variable.it v u ≡ eq_variable.it u v
+same_either_way v u =
+    both_or_none (eq_variable.it v u) (eq_variable.it u v)
+    (λ h. (variable_decides u v).1 (sym ((variable_decides v u).0 h)))
+    (λ h. (variable_decides v u).1 (sym ((variable_decides u v).0 h)))
 
 or_move : (a b c : Bool) → ((a || b) || c) ≡ (b || (a || c))
 or_move true true c = refl
 or_move true false c = refl
 or_move false b c = refl
 
-module _ (set more : VariableSet) (u v : Variable) (is : Has more v ↔ ((v ≡ u) ⊎ Has set v)) where
-  at_head : v ≡ u → is_at (cmp_variable.it v) u ≡ true
-  at_head e = ap is_eq ((variable_ordered v u).1 e)
-
-  from_head : is_at (cmp_variable.it v) u ≡ true → v ≡ u
-  from_head h = (variable_ordered v u).0 (is_equal (cmp_variable.it v u) h)
-
+module _ (set more : VariableSet) (u v : Variable) (is : has more ≡ with_variable u (has set)) where
   has_more : has more v ≡ (is_at (cmp_variable.it v) u || has set v)
-  has_more =
-      both_or_none (has more v) (is_at (cmp_variable.it v) u || has set v)
-      (λ h. elim (is.0 h) as (λ _. (is_at (cmp_variable.it v) u || has set v) ≡ true) [
-        | inl e ↦ or_left (is_at (cmp_variable.it v) u) (has set v) (at_head e)
-        | inr s ↦ or_right (is_at (cmp_variable.it v) u) (has set v) s
-      ])
-      (λ h. is.1 (elim (one_of (is_at (cmp_variable.it v) u) (has set v) h) as (λ _. (v ≡ u) ⊎ Has set v) [ inl e ↦ inl (from_head e) | inr s ↦ inr s ]))
+  unfolding with_variable
+  has_more = ap (λ (one : Variable → Bool). one v) is ∙ ap (λ b. b || has set v) (sym (same_by_order v u))
 
   pub moved_in : (rest : Bool) → (has more v || rest) ≡ (has set v || (is_at (cmp_variable.it v) u || rest))
   moved_in rest = ap (λ b. b || rest) has_more ∙ or_move (is_at (cmp_variable.it v) u) (has set v) rest

@@ -20,3 +20,4 @@ pub mod OfCitation
 pub mod NamesParts
 pub mod NamedSet
 pub mod VariableSet
+pub mod SetCode

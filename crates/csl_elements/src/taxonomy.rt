@@ -6,6 +6,7 @@ ghost use Rattle.csl_elements.specs.Taxonomy.{variable_of};
 ghost use Rattle.csl_elements.specs.declared.taxonomy.NumberOrPageVariable.TheVariants as numbers_or_pages;
 ghost use Rattle.csl_elements.specs.declared.taxonomy.Variable.TheVariants as variables;
 
+pub(crate) mod all_variables;
 mod kind_names;
 mod locator_names;
 pub(crate) mod variable_names;

@@ -1,12 +1,15 @@
 //! Sets of variables.
 
-ghost use Rattle.std.specs.Prelude.{◌≡◌, ◌<◌, ◌↔◌, ◌⊎◌, ◌||◌, true, false, IsTrue};
+ghost use Rattle.std.specs.Prelude.{◌≡◌, ◌<◌, ◌↔◌, ◌||◌, true, false, IsTrue, IfOk, OnOk, if◌then◌else◌};
 ghost use Rattle.std.specs.BTreeSet.{contains};
 ghost use Rattle.csl_elements.specs.declared.taxonomy.Variable.{Variable};
 ghost use Rattle.csl_elements.specs.contracts.taxonomy.VariableOrd.TheImpl.{cmp-value as cmp_variable};
-ghost use Rattle.csl_elements.specs.VariableSet.{place, has, Has, AreAlikeOn};
+ghost use Rattle.csl_elements.specs.VariableSet.{place, has, AreAlikeOn, no_variables, with_variable, with_held, members_of};
 
 use crate::taxonomy::Variable;
+use crate::taxonomy::all_variables::VARIABLES;
+use csl_common::Memory;
+use std::alloc::Global;
 use std::collections::BTreeSet;
 
 /// The places of variables.
@@ -60,7 +63,7 @@ impl VariableSet {
 
     /// The set with one more variable.
     pub fn with(self, variable: Variable) -> VariableSet
-        ensures { (v : Variable) → Has result v ↔ ((v ≡ variable) ⊎ Has self v) }
+        ensures { has result ≡ with_variable variable (has self) }
     {
         VariableSet {
             places: self.places | 1 << place(variable),
@@ -88,5 +91,56 @@ impl VariableSet {
         ensures { IsTrue result ↔ AreAlikeOn read self other }
     {
         (self.places ^ other.places) & read.places & PLACES == 0
+    }
+
+    /// Whether the set has no variable.
+    pub fn is_empty(self) -> bool
+        ensures { IsTrue result ↔ (has self ≡ no_variables) }
+    {
+        self.is_alike_on(VariableSet::all(), VariableSet::new())
+    }
+
+    /// Adds the variable to an ordered set, if this set has it.
+    #[tactic(auto, using(crate::proofs::OrderedSets::added))]
+    fn insert_into(self, variable: Variable, ordered: &mut BTreeSet<Variable>) -> Result<(), Memory>
+        ensures { OnOk result (members_of ordered.new ≡ (if has self variable
+            then with_variable variable (members_of ordered.old) else members_of ordered.old)) }
+    {
+        if !self.contains(variable) {
+            return Ok(());
+        }
+        ordered.insert(variable)?;
+        Ok(())
+    }
+
+    /// Adds those of the variables to an ordered set that this set has.
+    #[tactic(auto, unfolding(crate::specs::VariableSet::with_held))]
+    fn insert_all_into(
+        self,
+        variables: &[Variable],
+        ordered: &mut BTreeSet<Variable>,
+    ) -> Result<(), Memory>
+        ensures { OnOk result (members_of ordered.new
+            ≡ with_held (has self) variables.now (members_of ordered.old)) }
+    {
+        for variable in variables {
+            self.insert_into(*variable, ordered)?;
+        }
+        Ok(())
+    }
+
+    /// The variables of the set, in order.
+    ///
+    /// # Errors
+    /// [`Memory`]: out of memory.
+    pub fn to_ordered(self, alloc: Global) -> Result<BTreeSet<Variable>, Memory>
+        ensures { IfOk result (λ ordered. members_of ordered ≡ has self) }
+    {
+        let mut ordered = BTreeSet::new(alloc);
+        if self.is_empty() {
+            return Ok(ordered);
+        }
+        self.insert_all_into(&VARIABLES, &mut ordered)?;
+        Ok(ordered)
     }
 }

@@ -10,6 +10,9 @@ use csl_context::{LeftState, Rendered};
 pub fn same_state(a: &LeftState, b: &LeftState) -> bool
     ensures { IsTrue result ↔ (left_state_view a.now ≡ left_state_view b.now) }
 {
+    // The length of a set gives the prover that its variables are in order, each once.
+    let _length = a.suppressed.len();
+    let _other = b.suppressed.len();
     *a == *b
 }
 
@@ -18,5 +21,8 @@ pub fn same_rendered(a: &Rendered, b: &Rendered) -> bool
     ensures { IsTrue result ↔ ((tokens a.now.content ≡ tokens b.now.content)
         × (left_state_view a.now.state ≡ left_state_view b.now.state)) }
 {
+    // As in `same_state`.
+    let _length = a.state.suppressed.len();
+    let _other = b.state.suppressed.len();
     *a == *b
 }

@@ -3,16 +3,11 @@
 -- state before the lookups for their lists are refused by the state after them, and no others.
 use Rattle.std.proofs.Common.{◌≡◌, ◌⊎◌, inl, inr, Bool, true, false, List, [], ◌∷◌, Option, Some, refl, sym, ap, ap₂, subst, ◌∙◌}
 use Rattle.std.specs.Prelude.{◌||◌, ◌&&◌, is_some, if◌then◌else◌}
-use Rattle.std.specs.BTreeMap.{is_at}
-use Rattle.std.specs.BTreeSet.{insert_key}
-use Rattle.std.specs.List.{list_any}
-use Rattle.std.specs.Ordering.{is_eq, match_ordering}
-use Rattle.std.specs.declared.cmp.Ordering.{Ordering}
-use Rattle.std.specs.declared.cmp.Ordering.TheVariants.{Less, Equal, Greater}
 use Rattle.std.proofs.lemmas.Bool.{false≢true, and_parts}
 use Rattle.std.proofs.lemmas.Slice.Eq.{slice_eq-Decides}
 use Rattle.lit_model.specs.Person.{PersonView}
 use Rattle.lit_model.specs.SamePerson.{same_people}
+use Rattle.csl_elements.specs.contracts.taxonomy.VariablePartialEq.TheImpl.{eq-value as eq_variable}
 use Rattle.csl_elements.specs.declared.taxonomy.NameVariable.{NameVariable}
 use Rattle.csl_elements.specs.declared.taxonomy.NameVariable.TheVariants.{Author, Editor, Translator, EditorTranslator}
 use Rattle.csl_elements.specs.declared.taxonomy.Variable.{Variable}
@@ -21,9 +16,10 @@ use Rattle.csl_elements.specs.declared.term.Term.TheVariants as terms
 use Rattle.csl_elements.specs.declared.term.TermForm.TheVariants as term_forms
 use Rattle.csl_elements.specs.Names.{NamesNode}
 use Rattle.csl_elements.specs.Node.{ExpandedSubstitutes, expanded_names}
-use Rattle.csl_elements.proofs.Variables.{name_decides, variable_ordered}
+use Rattle.csl_elements.specs.VariableSet.{with_variable}
+use Rattle.csl_elements.proofs.Variables.{name_decides, variable_decides}
 use Rattle.csl_entry.specs.Instance.{resolve_names}
-use Rattle.csl_context.specs.State.{State, is_suppressed, state_after_resolve, variable_cmp}
+use Rattle.csl_context.specs.State.{State, is_suppressed, state_after_resolve}
 use Rattle.csl_context.specs.RenderInput.{RenderInput, peek_names, term_in}
 use Rattle.csl_names.specs.NamesLists.{PersonLists, has_none, all_empty, same_variables, is_pair, may_merge, merged_lists, peeked_lists, each_resolved, state_after_resolve_all, resolved_lists, lists_state}
 use Rattle.csl_render.specs.Names.{author, has_variable, is_refused, names_show}
@@ -34,29 +30,18 @@ use Rattle.csl_render.proofs.Reading.{Same, same_lookup, AreLookedUpAlike, any_l
 
 -- ---- one lookup
 
--- a key that fails a test does not change whether any key of a list passes it
-module _ {K : Type 0} (cmp : K → K → Ordering) (p : K → Bool) (k : K) (fails : p k ≡ false) where
-  any_at : (o : Ordering) (x : K) (xs ys : List K) → list_any p xs ≡ list_any p ys → list_any p (x ∷ xs) ≡ list_any p (match_ordering o (k ∷ x ∷ xs) (x ∷ xs) (x ∷ ys))
-  any_at Less x xs ys h = ap (λ b. b || list_any p (x ∷ xs)) (sym fails)
-  any_at Equal x xs ys h = refl
-  any_at Greater x xs ys h = ap (λ b. p x || b) h
-
-  any_inserted : (ks : List K) → list_any p ks ≡ list_any p (insert_key cmp ks k)
-  any_inserted [] = ap (λ b. b || false) (sym fails)
-  any_inserted (x ∷ xs) = any_at (cmp k x) x xs (insert_key cmp xs k) (any_inserted xs)
-
-any_if : (b : Bool) (p : Variable → Bool) (v : Variable) (vs : List Variable) → p v ≡ false → list_any p vs ≡ list_any p (if b then insert_key variable_cmp vs v else vs)
-any_if true p v vs fails = any_inserted variable_cmp p v fails vs
-any_if false p v vs fails = refl
+-- another variable is in the set exactly if it is in the set with this one
+still_in : (b : Bool) (u v : Variable) (set : Variable → Bool) → eq_variable.it v u ≡ false → set v ≡ (if b then with_variable u set else set) v
+unfolding with_variable
+still_in true u v set other = ap (λ b. b || set v) (sym other)
+still_in false u v set other = refl
 
 -- another variable is suppressed after the lookup exactly if it was before
-other_kept : (s : State) (v x : Variable) → is_at (variable_cmp x) v ≡ false → is_suppressed s x ≡ is_suppressed (state_after_resolve v s) x
-other_kept s v x other = any_if s.suppressing (is_at (variable_cmp x)) v s.suppressed other
+other_kept : (s : State) (v x : Variable) → eq_variable.it x v ≡ false → is_suppressed s x ≡ is_suppressed (state_after_resolve v s) x
+other_kept s v x other = still_in s.suppressing v x s.suppressed other
 
-at_name : (x v : NameVariable) (o : Ordering) → variable_cmp (variable.Name x) (variable.Name v) ≡ o → is_eq o ≡ true → x ≡ v
-at_name x v Less e h = absurd (false≢true h)
-at_name x v Equal e h = let same : variable.Name x ≡ variable.Name v = (variable_ordered (variable.Name x) (variable.Name v)).0 e in cc
-at_name x v Greater e h = absurd (false≢true h)
+same_name : (x v : NameVariable) → eq_variable.it (variable.Name x) (variable.Name v) ≡ true → x ≡ v
+same_name x v h = let same : variable.Name x ≡ variable.Name v = (variable_decides (variable.Name x) (variable.Name v)).0 h in cc
 
 still_none : (before after : Bool) (people : List PersonView) → (before ≡ true → after ≡ true) → (if before then [] else people) ≡ [] → (if before then [] else people) ≡ (if after then [] else people)
 still_none true after people kept none = ap (λ b. if b then [] else people) (sym (kept refl))
@@ -72,9 +57,9 @@ module _ (w : RenderInput) where
     abbrev after : State
     after = state_after_resolve (variable.Name v) s
 
-    names_found : (x : NameVariable) (same : Bool) → is_at (variable_cmp (variable.Name x)) (variable.Name v) ≡ same → peek_names w s x ≡ peek_names w after x
+    names_found : (x : NameVariable) (same : Bool) → eq_variable.it (variable.Name x) (variable.Name v) ≡ same → peek_names w s x ≡ peek_names w after x
     names_found x true e =
-        let is = at_name x v (variable_cmp (variable.Name x) (variable.Name v)) refl e in
+        let is = same_name x v e in
         let kept = (look_keeps (variable.Name v) s).suppressed (variable.Name v) in
         subst (λ y. peek_names w s y ≡ peek_names w after y) (sym is) (still_none (is_suppressed s (variable.Name v)) (is_suppressed after (variable.Name v)) (resolve_names w.instance v) kept none)
     names_found x false e = same_lookup w s after (variable.Name x) (other_kept s (variable.Name v) (variable.Name x) e)
@@ -83,7 +68,7 @@ module _ (w : RenderInput) where
     found_after (variable.Standard x) = same_lookup w s after (variable.Standard x) (other_kept s (variable.Name v) (variable.Standard x) refl)
     found_after (variable.Number x) = same_lookup w s after (variable.Number x) (other_kept s (variable.Name v) (variable.Number x) refl)
     found_after (variable.Page x) = same_lookup w s after (variable.Page x) (other_kept s (variable.Name v) (variable.Page x) refl)
-    found_after (variable.Name x) = names_found x (is_at (variable_cmp (variable.Name x)) (variable.Name v)) refl
+    found_after (variable.Name x) = names_found x (eq_variable.it (variable.Name x) (variable.Name v)) refl
     found_after (variable.Date x) = same_lookup w s after (variable.Date x) (other_kept s (variable.Name v) (variable.Date x) refl)
 
     -- a lookup that finds no persons

@@ -1,15 +1,10 @@
 -- Nodes without children preserve the state (`Keeps`): a lookup only adds to the suppressed
 -- variables, a date only sets its mark, and names set the first names only if the state has none.
 use Rattle.std.proofs.Common.{◌≡◌, Bool, true, false, List, [], ◌∷◌, Option, Some, None, refl, ap, ◌∙◌}
-use Rattle.std.specs.Prelude.{◌||◌, is_some, if◌then◌else◌}
-use Rattle.std.specs.BTreeMap.{is_at}
-use Rattle.std.specs.BTreeSet.{insert_key}
-use Rattle.std.specs.List.{list_any}
+use Rattle.std.specs.Prelude.{is_some, if◌then◌else◌}
 use Rattle.std.specs.Option.{option_or}
-use Rattle.std.specs.Ordering.{match_ordering}
-use Rattle.std.specs.declared.cmp.Ordering.{Ordering}
-use Rattle.std.specs.declared.cmp.Ordering.TheVariants.{Less, Equal, Greater}
 use Rattle.lit_model.specs.Date.{DateView}
+use Rattle.csl_elements.specs.contracts.taxonomy.VariablePartialEq.TheImpl.{eq-value as eq_variable}
 use Rattle.csl_elements.specs.declared.names.NameForm.{NameForm}
 use Rattle.csl_elements.specs.declared.names.NameForm.TheVariants.{Count, Short, Long}
 use Rattle.csl_elements.specs.declared.taxonomy.DateVariable.{DateVariable}
@@ -20,10 +15,11 @@ use Rattle.csl_elements.specs.declared.taxonomy.Variable.TheVariants as variable
 use Rattle.csl_elements.specs.Names.{NamesNode}
 use Rattle.csl_elements.specs.Node.{Target, of_variable, of_term, of_value, NumberNode, DateNode}
 use Rattle.csl_elements.specs.Taxonomy.{variable_of}
+use Rattle.csl_elements.specs.VariableSet.{with_variable}
 use Rattle.csl_elements.proofs.Sets.{or_right}
 use Rattle.csl_entry.specs.NameProperties.{NameProperties}
 use Rattle.csl_entry.specs.declared.citation.cite.Sorting.{Sorting}
-use Rattle.csl_context.specs.State.{State, Inherited, state_after_resolve, variable_cmp}
+use Rattle.csl_context.specs.State.{State, Inherited, state_after_resolve}
 use Rattle.csl_context.specs.RenderInput.{RenderInput, peek_date}
 use Rattle.csl_names.specs.CiteForms.{with_first_forms, with_first_forms_by}
 use Rattle.csl_names.specs.NamesLists.{PersonLists, may_merge, all_empty, state_after_resolve_all, lists_state}
@@ -56,27 +52,14 @@ if_keeps s false t u a c = c
 
 -- ---- lookups
 
--- if a key of a list passes a test, some key still passes after one more is inserted
-module _ {K : Type 0} (cmp : K → K → Ordering) (p : K → Bool) (k : K) where
-  or_more : (a b c : Bool) → (b ≡ true → c ≡ true) → (a || b) ≡ true → (a || c) ≡ true
-  or_more true b c f h = refl
-  or_more false b c f h = f h
-
-  any_at : (o : Ordering) (x : K) (xs ys : List K) → (list_any p xs ≡ true → list_any p ys ≡ true) → list_any p (x ∷ xs) ≡ true → list_any p (match_ordering o (k ∷ x ∷ xs) (x ∷ xs) (x ∷ ys)) ≡ true
-  any_at Less x xs ys f h = or_right (p k) (list_any p (x ∷ xs)) h
-  any_at Equal x xs ys f h = h
-  any_at Greater x xs ys f h = or_more (p x) (list_any p xs) (list_any p ys) f h
-
-  any_after : (ks : List K) → list_any p ks ≡ true → list_any p (insert_key cmp ks k) ≡ true
-  any_after [] h = absurd (cc)
-  any_after (x ∷ xs) h = any_at (cmp k x) x xs (insert_key cmp xs k) (any_after xs) h
-
-any_if : (b : Bool) (p : Variable → Bool) (v : Variable) (vs : List Variable) → list_any p vs ≡ true → list_any p (if b then insert_key variable_cmp vs v else vs) ≡ true
-any_if true p v vs h = any_after variable_cmp p v vs h
-any_if false p v vs h = h
+-- a variable of a set is in the set with one more variable
+still_has : (b : Bool) (u v : Variable) (set : Variable → Bool) → set v ≡ true → (if b then with_variable u set else set) v ≡ true
+unfolding with_variable
+still_has true u v set h = or_right (eq_variable.it v u) (set v) h
+still_has false u v set h = h
 
 pub look_keeps : (v : Variable) (s : State) → Keeps s (state_after_resolve v s)
-look_keeps v s = record { switch = refl; suppressed = λ u h. any_if s.suppressing (is_at (variable_cmp u)) v s.suppressed h; date = λ h. h; names = λ h. refl }
+look_keeps v s = record { switch = refl; suppressed = λ u h. still_has s.suppressing v u s.suppressed h; date = λ h. h; names = λ h. refl }
 
 looks_keep : (w : RenderInput) (vs : List NameVariable) (s : State) → Keeps s (state_after_resolve_all w s vs)
 looks_keep w [] s = keeps_itself s

@@ -12,7 +12,7 @@ use Rattle.csl_elements.specs.declared.element.Names.{Names}
 use Rattle.csl_elements.specs.declared.taxonomy.NameVariable.TheVariants.{Author}
 use Rattle.csl_elements.specs.declared.taxonomy.Variable.TheVariants as variable
 use Rattle.csl_elements.specs.Names.{NamesNode}
-use Rattle.csl_elements.specs.NamesParts.{names_node}
+use Rattle.csl_elements.specs.NamesParts.{names_node, names_substitutes, first_substitute}
 use Rattle.csl_elements.specs.Node.{Node, Nodes, Branches, no_branches, otherwise, branch, ExpandedNode, expanded_text, expanded_macro, unknown_macro, expanded_number, expanded_label, expanded_date, expanded_names, shorthand, expanded_choose, expanded_group, ExpandedNodes, no_expanded_nodes, expanded_node, ExpandedBranches, no_expanded_branches, expanded_otherwise, expanded_branch, ExpandedSubstitutes, no_expanded_substitutes, expanded_substitute, expand, expand_nodes, expand_branches}
 use Rattle.csl_style.specs.Expanded.{macro_env}
 use Rattle.csl_elements.specs.View.{view_node, view_branch, view_choose, view_group, view_names, view_nodes, branches_of}
@@ -40,6 +40,7 @@ use Rattle.csl_render.proofs.Chosen.{IsChoice, is_choice, choice_out, info_of_ch
 use Rattle.csl_render.proofs.GroupView.{group_out}
 use Rattle.csl_render.proofs.NamesView.{names_out}
 use Rattle.csl_render.proofs.Reading.{matches_same, lists_same, alike_within, alike_to_itself}
+use Rattle.csl_render.proofs.Within.{info_by, shows_of_substitute, asked_by}
 
 -- ---- no plan
 
@@ -247,10 +248,21 @@ around_taken w s env c taken tested r is has within here tells inside u alike =
       asked_nodes w env (dry w.instance.special s) u is c (subst (λ o. AreOfTaken w (dry w.instance.special s) (option_map (expand_nodes env) o) is) there inside),
     )
 
--- the result for substitutes, by that for the children of the first
-pub around_first : (w : RenderInput) (d : DryView) (ss : ExpandedSubstitutes) (taken : Option ExpandedNodes) (r : NodeInfo) (is : List PlanItem) → ((u : State) → substitute_info w u ss ≡ choice_info w u taken) → ((u : State) → substitute_shows w u author ss ≡ choice_shows w u author taken) → (AreOfTaken w d taken is → AreOfSubstitutes w d ss is)
+-- the result for substitutes, by that for the nodes that they take
+around_first : (w : RenderInput) (d : DryView) (ss : ExpandedSubstitutes) (taken : Option ExpandedNodes) (r : NodeInfo) (is : List PlanItem) → ((u : State) → substitute_info w u ss ≡ choice_info w u taken) → ((u : State) → substitute_shows w u author ss ≡ choice_shows w u author taken) → (AreOfTaken w d taken is → AreOfSubstitutes w d ss is)
     → ((u : State) → AreAlikeOn w r.read d u → (answer_of r ≡ choice_info w u taken) × TellsAuthor w r.shows_author (choice_shows w u author taken)) → AreOfTaken w d taken is → IsInfoOfSubstitutes w d ss r is
 around_first w d ss taken r is same shown from tells inside = (λ u alike. ((tells u alike).0 ∙ sym (same u), λ asks. (tells u alike).1 asks ∙ sym (shown u)), from inside)
+
+-- the result for the substitutes of a names node, by that for the children of the first
+pub around_substitute : (w : RenderInput) (d : DryView) (env : List ℕ → Option ExpandedNodes) (x : Names) (taken : Option Nodes) (r : NodeInfo) (is : List PlanItem) → taken ≡ first_substitute (names_substitutes x)
+    → ((u : State) → AreAlikeOn w r.read d u → (answer_of r ≡ choice_info w u (option_map (expand_nodes env) taken)) × TellsAuthor w r.shows_author (choice_shows w u author (option_map (expand_nodes env) taken)))
+    → AreOfTaken w d (option_map (expand_nodes env) taken) is → IsInfoOfSubstitutes w d (expanded_substitutes_of env x) r is
+around_substitute w d env x taken r is here tells inside =
+    around_first w d (expanded_substitutes_of env x) (option_map (expand_nodes env) taken) r is
+    (λ u. info_by env (names_node x) w u (names_substitutes x) ∙ ap (λ o. choice_info w u (option_map (expand_nodes env) o)) (sym here))
+    (λ u. shows_of_substitute env x w u author ∙ ap (λ o. choice_shows w u author (option_map (expand_nodes env) o)) (sym here))
+    (λ h. asked_by env (names_node x) w d (names_substitutes x) is (subst (λ o. AreOfTaken w d (option_map (expand_nodes env) o) is) here h))
+    tells inside
 
 -- ---- names
 

@@ -1,19 +1,21 @@
 -- Sets of variables around others, and lists whose variables are in a set.
-use Rattle.std.proofs.Common.{◌≡◌, ◌⊎◌, ◌↔◌, ℕ, ◌+◌, ◌<◌, ◌≤◌, drop, get_or, inl, inr, length, List, [], ◌∷◌, refl, subst, sym, ◌∙◌}
+use Rattle.std.proofs.Common.{◌≡◌, ℕ, ◌+◌, ◌<◌, ◌≤◌, Bool, drop, get_or, length, List, [], ◌∷◌, refl, ap, subst, sym, ◌∙◌}
 use Rattle.std.specs.Prelude.{◌||◌}
 use Rattle.std.proofs.lemmas.List.{at_drop_more, at_drop_all}
+use Rattle.csl_elements.specs.contracts.taxonomy.VariablePartialEq.TheImpl.{eq-value as eq_variable}
 use Rattle.csl_elements.specs.declared.element.ChooseBranch.{ChooseBranch}
 use Rattle.csl_elements.specs.declared.element.LayoutRenderingElement.TheFolds.{fold_out-ChooseBranch}
 use Rattle.csl_elements.specs.declared.taxonomy.Variable.{Variable}
 use Rattle.csl_elements.specs.declared.taxonomy.Variable.TheVariants as variable
 use Rattle.csl_elements.specs.Node.{Tests, Node, Nodes}
 use Rattle.csl_elements.proofs.Sets.{or_left, or_right}
+use Rattle.csl_elements.proofs.Variables.{variable_decides}
 use Rattle.csl_elements.specs.View.{NamesChildView, BranchView, view_branch, element_step, child_step, choose_step, branch_step, group_step, names_step, substitute_step}
 use Rattle.csl_entry.specs.Alike.{Each}
 use Rattle.csl_nodes.specs.RemainingConditions.{tests_of}
 use Rattle.csl_elements.specs.declared.variable_set.VariableSet.{VariableSet}
 use Rattle.csl_render.specs.Plan.{HasTested}
-use Rattle.csl_elements.specs.VariableSet.{has, Has, IsWithin}
+use Rattle.csl_elements.specs.VariableSet.{has, Has, IsWithin, with_variable}
 
 -- the union of two sets has each variable of both
 module _ (a b both : VariableSet) (is : (v : Variable) → has both v ≡ (has a v || has b v)) where
@@ -24,12 +26,14 @@ module _ (a b both : VariableSet) (is : (v : Variable) → has both v ≡ (has a
   right_within v h = is v ∙ or_right (has a v) (has b v) h
 
 -- the set with one more variable has it, and each variable of the set
-module _ (a more : VariableSet) (u : Variable) (is : (v : Variable) → Has more v ↔ ((v ≡ u) ⊎ Has a v)) where
+module _ (a more : VariableSet) (u : Variable) (is : has more ≡ with_variable u (has a)) where
   pub has_more : Has more u
-  has_more = (is u).1 (inl refl)
+  unfolding with_variable
+  has_more = ap (λ (one : Variable → Bool). one u) is ∙ or_left (eq_variable.it u u) (has a u) ((variable_decides u u).1 refl)
 
   pub more_within : IsWithin a more
-  more_within v h = (is v).1 (inr h)
+  unfolding with_variable
+  more_within v h = ap (λ (one : Variable → Bool). one v) is ∙ or_right (eq_variable.it v u) (has a v) h
 
 -- ---- from a place of a list on
 

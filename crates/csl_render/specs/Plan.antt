@@ -54,7 +54,7 @@ pub record DryView : Type 0 where
 
 abbrev pub dry : Option SpecialForm → State → DryView
 dry special s = record {
-  suppressed = is_suppressed s;
+  suppressed = s.suppressed;
   first_date_seen = asks_for_dates special && s.first_date_seen;
 }
 

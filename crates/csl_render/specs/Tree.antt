@@ -6,8 +6,8 @@
 -- takes, together, without the group flag. It shows the variables that any of them shows. If it
 -- takes none, it does not print, has no flags and shows nothing. A layout is the content of its
 -- elements, one after another, in its formatting (`layout_output`). No delimiter is between them. A
--- choice directly in the layout inherits the layout's delimiter. Only private contracts cite
--- `choice_info`, `choice_shows`, `choice_output` and `first_substitute_output`.
+-- choice directly in the layout inherits the layout's delimiter. Only private contracts and proofs
+-- cite `choice_info`, `choice_shows`, `choice_output` and `first_substitute_output`.
 use Rattle.std.specs.Prelude.{ℕ, Bool, true, false, ◌||◌, List, [], Option, Some, None, if◌then◌else◌}
 use Rattle.csl_elements.specs.declared.taxonomy.Variable.{Variable}
 use Rattle.csl_elements.specs.Dressing.{AffixTexts, Dressing, TextDressing}

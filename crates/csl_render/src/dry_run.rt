@@ -38,13 +38,15 @@ impl<'c, 's, T: EntryLike> Model for DryRun<'c, 's, T> {
     ghost use Rattle.std.specs.Coded.{codes};
     ghost use Rattle.csl_elements.specs.contracts.element.CslMacro as of_macro;
     ghost use Rattle.csl_elements.specs.contracts.element.Layout as of_layout;
+    ghost use Rattle.csl_elements.specs.SetCode.{set_code};
     ghost use Rattle.csl_context.specs.ContextView.{render_input};
     ghost use Rattle.csl_render.specs.DryRun.{HasInfos, Run};
     ghost use Rattle.csl_render.specs.Plan.{dry_now};
 
     ghost Value = { Run T };
 
-    ghost coded = { Prim.hlevel (codes, of_macro.the_row.coded, of_layout.the_row.coded) };
+    ghost coded = { Prim.hlevel
+        (codes, set_code, of_macro.the_row.coded, of_layout.the_row.coded) };
 
     ghost view = { λ r. record { now = r.ctx.now; items = r.items.items } };
 

@@ -79,6 +79,7 @@ impl Node for Label {
 }
 
 /// The variable of a date, if it has one.
+#[tactic(auto, using(crate::proofs::VariableSets::has_more))]
 fn variable_of_date(date: &Date) -> VariableSet
     ensures { IfSome date.now.variable (λ v. Has result (variable.Date v)) }
 {

@@ -127,7 +127,7 @@ impl DryState {
         ensures { dry_view result ≡ dry_now ctx.now }
     {
         DryState {
-            suppressed: VariableSet::of(ctx.suppressed()),
+            suppressed: ctx.suppressed(),
             first_date_seen: date_seen(ctx),
         }
     }

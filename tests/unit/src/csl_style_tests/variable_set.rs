@@ -1,6 +1,6 @@
 //! Sets of variables.
 
-use crate::assertions::assert_of;
+use crate::assertions::{assert_of, assert_same};
 use csl_style::{
     DateVariable, NameVariable, NumberVariable, PageVariable, StandardVariable, Variable,
     VariableSet,
@@ -45,6 +45,16 @@ fn assert_has(
     }
 }
 
+/// Asserts which variables the ordered set has, in their order.
+fn assert_ordered(rt: &impl Abort, alloc: Global, set: VariableSet, wanted: &[Variable]) {
+    let ordered = set.to_ordered(alloc).expect(rt, "memory");
+    assert_same(rt, &set.is_empty(), &wanted.is_empty());
+    assert_same(rt, &ordered.len(), &wanted.len());
+    for (variable, same) in ordered.iter().zip(wanted) {
+        assert_same(rt, variable, same);
+    }
+}
+
 #[test]
 fn a_set_has_what_was_put_into_it(rt: HostRuntime) {
     let variables: &[Variable] = &ENDS;
@@ -71,6 +81,22 @@ fn the_set_of_a_tree_has_its_variables(rt: HostRuntime) {
         let _is_new = tree.insert(*variable).expect(&rt, "memory");
         assert_has(&rt, variables, VariableSet::of(&tree), |i| i <= place);
     }
+}
+
+#[test]
+fn the_variables_of_a_set_are_in_order(rt: HostRuntime) {
+    let alloc: Global = rt.alloc();
+    let variables: &[Variable] = &ENDS;
+    assert_ordered(&rt, alloc, VariableSet::new(), &[]);
+    let mut set = VariableSet::new();
+    for variable in variables.iter().rev() {
+        set = set.with(*variable);
+        assert_ordered(&rt, alloc, VariableSet::new().with(*variable), &[*variable]);
+    }
+    assert_ordered(&rt, alloc, set, variables);
+    let all = VariableSet::all().to_ordered(alloc).expect(&rt, "memory");
+    assert_same(&rt, &all.len(), &98);
+    assert_has(&rt, variables, VariableSet::of(&all), |_| true);
 }
 
 #[test]

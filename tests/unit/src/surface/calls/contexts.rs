@@ -11,7 +11,7 @@ use csl_entry::{
 use csl_style::{
     Affixes, Date, DateForm, DateVariable, Display, Formatting, InheritableNameOptions,
     InheritedNameOptions, NameVariable, NumberVariable, PageVariable, Scope, StandardVariable,
-    Style, Term, TermForm,
+    Style, Term, TermForm, VariableSet,
 };
 use csl_tree::ElemMeta;
 use lit_model::{ChunkedString, GrammarGender, LongShortForm, Memory, Ordinals, Person};
@@ -44,6 +44,7 @@ fn getters<'s, T>(ctx: &Context<'s, T>) {
     has_type::<Option<&'s str>, _>(&ctx.delimiter());
     has_type::<InheritedNameOptions<'s>, _>(&ctx.name_options());
     has_type::<Option<&'s str>, _>(&ctx.name_options().names_delimiter);
+    has_type::<VariableSet, _>(&ctx.suppressed());
 }
 
 fn elements<T>(

@@ -76,6 +76,8 @@ fn variable_sets() {
     let _: fn(VariableSet, Variable) -> VariableSet = VariableSet::with;
     let _: fn(VariableSet, VariableSet) -> VariableSet = VariableSet::union;
     let _: fn(VariableSet, Variable) -> bool = VariableSet::contains;
+    let _: fn(VariableSet) -> bool = VariableSet::is_empty;
+    let _: fn(VariableSet, Global) -> Result<BTreeSet<Variable>, Memory> = VariableSet::to_ordered;
     let _: fn(VariableSet, VariableSet, VariableSet) -> bool = VariableSet::is_alike_on;
 }
 

@@ -12,6 +12,6 @@ loop-variable-preserved c v =
     let set = c.loop-variable.set in
     let at = is_at (cmp_variable.it v) in
     let step : c.loop-variable.variable-iterator ≡ x ∷ c.next.new.self = search rules in
-    moved_in set c.with-set.result x v (c.with-set.ensures v) (list_any at c.next.new.self)
+    moved_in set c.with-set.result x v c.with-set.ensures (list_any at c.next.new.self)
     ∙ ap (λ ks. has set v || list_any at ks) (sym step)
     ∙ c.loop-variable.invariant v

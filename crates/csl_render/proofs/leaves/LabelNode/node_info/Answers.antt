@@ -1,4 +1,4 @@
-use Rattle.std.proofs.Common.{inl, refl, subst, sym, ap, ◌∙◌}
+use Rattle.std.proofs.Common.{refl, subst, sym, ap, ◌∙◌}
 use Rattle.csl_elements.specs.Names.{view_label}
 use Rattle.csl_elements.specs.Node.{label}
 use Rattle.csl_elements.specs.Taxonomy.{variable_of}
@@ -8,6 +8,7 @@ use Rattle.csl_render.specs.Expanded.{expanded}
 use Rattle.csl_elements.specs.VariableSet.{Has}
 use Rattle.csl_render.proofs.Plans.{leaf}
 use Rattle.csl_render.proofs.Reading.{label_info_same}
+use Rattle.csl_render.proofs.VariableSets.{has_more}
 use Rattle.csl_render.proofs.leaves.LabelNode.node_info.Goals as goal
 
 pub returns : goal.returns
@@ -17,7 +18,7 @@ returns g c =
     let input = render_input g.T.EntryLike.answers in
     let v = c.args.self.now.variable in
     let l = view_label c.args.self.now.label in
-    let read = subst (Has c.with-read.result) c.from.ensures ((c.with-read.ensures c.from.result).1 (inl refl)) in
+    let read = subst (Has c.with-read.result) c.from.ensures (has_more c.new.result c.with-read.result c.from.result c.with-read.ensures) in
     leaf g.T.EntryLike.answers run (expanded now.style (label v l)) c.new-2.result c.new-2.ensures.author (λ s asks. refl) (λ s alike.
     let same = alike.1 (variable_of v) (subst (λ set. Has set (variable_of v)) (sym c.new-2.ensures.read) read) in
     c.new-2.ensures.answer ∙ c.in_ok-answer.ensures ∙ ap (λ b. label_info (input b) b.state v l) c.context.ensures ∙ label_info_same (input now) now.state s v l same)
