@@ -1,6 +1,6 @@
 -- The content of a names node that has persons, and the state that it leaves (CSL 1.0.2, Names;
 -- Label in Names; Affixes; Display; Name, `form`).
-use Rattle.std.specs.Prelude.{ℕ, ◌+◌, Bool, true, false, not, ◌&&◌, ◌||◌, ◌==◌, List, [], ◌∷◌, length, Option, Some, None, slice_get, decimal, if◌then◌else◌, option_map}
+use Rattle.std.specs.Prelude.{ℕ, ◌+◌, Bool, true, false, not, ◌&&◌, ◌||◌, ◌==◌, List, [], ◌∷◌, length, Option, Some, None, is_some, slice_get, decimal, if◌then◌else◌, option_map}
 use Rattle.std.specs.Option.{unwrap_or, option_or}
 use Rattle.lit_model.specs.Person.{PersonView}
 use Rattle.csl_elements.specs.declared.names.NameForm.{NameForm}
@@ -16,14 +16,15 @@ use Rattle.csl_tree.specs.Content.{◌++>◌, elem_content}
 use Rattle.csl_entry.specs.Cite.{CiteState}
 use Rattle.csl_entry.specs.NameProperties.{NameForms}
 use Rattle.csl_context.specs.State.{State, Inherited, with_node_formatting}
-use Rattle.csl_context.specs.Texts.{text_in, affixed_in}
+use Rattle.csl_context.specs.Texts.{text_in, between_in, affixed_in}
+use Rattle.csl_context.specs.ContextView.{ContextView}
 use Rattle.csl_context.specs.RenderInput.{term_in}
 use Rattle.csl_names.specs.Piece.{append_pieces}
 use Rattle.csl_names.specs.NameList.{name_list}
 use Rattle.csl_names.specs.ListStyles.{list_style}
 use Rattle.csl_names.specs.NamesLists.{PersonLists}
 use Rattle.csl_names.specs.NamesForms.{count_of, saturated_count}
-use Rattle.csl_names.specs.CiteForms.{forms_in, with_first_forms_by}
+use Rattle.csl_names.specs.CiteForms.{forms_in, with_first_forms, with_first_forms_by}
 use Rattle.csl_names.specs.declared.names.written.NamesStyle.{NamesStyle}
 
 -- ---- settings of the lists
@@ -61,6 +62,23 @@ names_style n inherited = record {
   delimiter = lists_delimiter n inherited;
 }
 
+-- ---- the input of the lists
+
+-- what the lists read of a context: the style, whether they are for a sort key, the cite, and the
+-- inherited values
+pub record NamesInput : Type 0 where
+  pub style : StyleParts
+  pub sorting : Bool
+  pub cite : CiteState
+  pub inherited : Inherited
+
+abbrev pub names_input : {T : Type 0} → ContextView T → NamesInput
+names_input now = record { style = now.style; sorting = is_some now.sorting; cite = now.cite; inherited = now.inherited }
+
+-- the context in which the content of the innermost part is changed by this input
+abbrev pub with_names_written : {T : Type 0} → (NamesInput → List Token → List Token) → ContextView T → ContextView T
+with_names_written f now = record now { inner = f (names_input now) now.inner }
+
 -- ---- labels
 -- The label of a list is the affixed term of its variable, in the label's formatting, in the plural
 -- unless there is one person. The label's strip-periods applies to the term alone. Nothing is
@@ -91,9 +109,9 @@ with_term l None inh ts = ts
 with_term l (Some term) inh ts = ts ++> label_content l term inh
 
 -- a content with a label after it, if there is one
-abbrev pub with_label : StyleParts → Option LabelNode → NameVariable → ℕ → Inherited → List Token → List Token
-with_label style None v count inh ts = ts
-with_label style (Some l) v count inh ts = with_term l (list_term style l v count) inh ts
+abbrev pub with_label : NamesInput → Option LabelNode → NameVariable → ℕ → List Token → List Token
+with_label w None v count ts = ts
+with_label w (Some l) v count ts = with_term l (list_term w.style l v count) w.inherited ts
 
 -- ---- lists
 -- A list is the label before it, the names in the formatting of the Name, and the label after it
@@ -106,21 +124,21 @@ is_skipped persons None = true
 is_skipped [] (Some forms) = true
 is_skipped (p ∷ ps) (Some forms) = false
 
-module _ (style : StyleParts) (sorting : Bool) (settings : NamesStyleView) (inh : Inherited) where
+module _ (w : NamesInput) (settings : NamesStyleView) where
   -- a content with the names of a list after it, in the formatting of the Name
   abbrev pub with_list : List PersonView → NameVariable → NameForms → List Token → List Token
   with_list persons v forms ts =
-      append_pieces (with_node_formatting settings.name.formatting inh)
-      (name_list (with_node_formatting settings.name.formatting inh) (list_style style sorting settings.name settings.options settings.et_al v) persons forms) ts
+      append_pieces (with_node_formatting settings.name.formatting w.inherited)
+      (name_list (with_node_formatting settings.name.formatting w.inherited) (list_style w.style w.sorting settings.name settings.options settings.et_al v) persons forms) ts
 
   -- a content with a list after it: the delimiter, unless the list is the first; label, names,
   -- label
   unfoldable pub with_labelled_list : Bool → List PersonView → NameVariable → NameForms → List Token → List Token
   with_labelled_list first persons v forms ts =
-      with_label style (label_on sorting true settings.label) v (length persons) inh
+      with_label w (label_on w.sorting true settings.label) v (length persons)
       (with_list persons v forms
-      (with_label style (label_on sorting false settings.label) v (length persons) inh
-      (if first then ts else ts ++> text_in inh settings.delimiter)))
+      (with_label w (label_on w.sorting false settings.label) v (length persons)
+      (if first then ts else ts ++> text_in w.inherited settings.delimiter)))
 
   -- a content with a list after it, unless the list is left out
   abbrev pub with_list_if_any : Bool → List PersonView → NameVariable → Option NameForms → List Token → List Token
@@ -136,17 +154,29 @@ module _ (style : StyleParts) (sorting : Bool) (settings : NamesStyleView) (inh 
       with_lists (first && is_skipped l.0 (slice_get forms place)) (place + 1) forms ls
       (with_list_if_any first l.0 l.1 (slice_get forms place) ts)
 
+  -- all lists, in the forms that a node of these variables uses
+  abbrev pub with_all_lists : List NameVariable → PersonLists → List Token → List Token
+  with_all_lists vs ls ts = with_lists true 0 (forms_in w.cite vs settings.options ls).lists ls ts
+
 -- ---- the node
 -- A box of the node's display, in its formatting, around the affixes. Between them are the lists in
 -- their forms, or, if the form is the count, the number of names, whatever forms the citation has.
 -- The meta of the box is the lists. The state after it keeps the forms of the first names, unless
 -- they are counted (`names_state`).
 
--- the content between the affixes: the number of names, or the names
-abbrev pub names_body : NameForm → StyleParts → Bool → CiteState → List NameVariable → NamesStyleView → PersonLists → Inherited → List Token
-names_body Count style sorting cite vs settings ls inh = text_in inh (decimal (saturated_count (count_of settings.options (not cite.is_first) ls)))
-names_body Short style sorting cite vs settings ls inh = with_lists style sorting settings inh true 0 (forms_in cite vs settings.options ls).lists ls []
-names_body Long style sorting cite vs settings ls inh = with_lists style sorting settings inh true 0 (forms_in cite vs settings.options ls).lists ls []
+module _ (w : NamesInput) (settings : NamesStyleView) (vs : List NameVariable) (ls : PersonLists) where
+  abbrev pub body_in_form : NameForm → List Token
+  body_in_form Count = text_in w.inherited (decimal (saturated_count (count_of settings.options (not w.cite.is_first) ls)))
+  body_in_form Short = with_all_lists w settings vs ls []
+  body_in_form Long = with_all_lists w settings vs ls []
+
+  -- the content between the affixes: the number of names, or the names
+  abbrev pub names_body : List Token
+  names_body = body_in_form settings.options.form
+
+  -- the state after them
+  abbrev pub names_body_state : State → State
+  names_body_state s = with_first_forms_by settings.options.form (forms_in w.cite vs settings.options ls) s
 
 -- the meta of a names node's box
 abbrev pub lists_meta : PersonLists → Option Meta
@@ -157,12 +187,35 @@ lists_meta ls = Some (of_names ls)
 abbrev pub names_content : StyleParts → Bool → CiteState → NamesNode → PersonLists → Inherited → List Token
 names_content style sorting cite n ls inh = elem_content n.dressing.display (lists_meta ls)
     (affixed_in (with_node_formatting n.dressing.formatting inh) n.dressing.affixes
-    (names_body (names_style n inh.options).options.form style sorting cite n.variables (names_style n inh.options) ls (with_node_formatting n.dressing.formatting inh)))
+    (names_body (record { style = style; sorting = sorting; cite = cite; inherited = with_node_formatting n.dressing.formatting inh }) (names_style n inh.options) n.variables ls))
 
 -- the state after the node: it keeps the forms of the first names that are not counted
 abbrev pub names_state : CiteState → NamesNode → PersonLists → Inherited → State → State
 names_state cite n ls inh s =
     with_first_forms_by (names_style n inh.options).options.form (forms_in cite n.variables (names_style n inh.options).options ls) s
+
+-- ---- contexts
+
+-- the context after all lists; it keeps their forms if it keeps none yet
+abbrev pub with_lists_kept : {T : Type 0} → NamesStyleView → List NameVariable → PersonLists → ContextView T → ContextView T
+with_lists_kept settings vs ls now = record now {
+  inner = with_all_lists (names_input now) settings vs ls now.inner;
+  state = with_first_forms (forms_in now.cite vs settings.options ls) now.state;
+}
+
+-- the context after the number of names, or the names, in an empty part
+abbrev pub with_names_body : {T : Type 0} → NamesStyleView → List NameVariable → PersonLists → ContextView T → ContextView T
+with_names_body settings vs ls now = record now {
+  inner = names_body (names_input now) settings vs ls;
+  state = names_body_state (names_input now) settings vs ls now.state;
+}
+
+-- the same between affixes
+abbrev pub with_affixed_body : {T : Type 0} → Option (List ℕ) → Option (List ℕ) → NamesStyleView → List NameVariable → PersonLists → ContextView T → ContextView T
+with_affixed_body prefix suffix settings vs ls now = record now {
+  inner = between_in now.inherited prefix suffix (names_body (names_input now) settings vs ls);
+  state = names_body_state (names_input now) settings vs ls now.state;
+}
 
 abbrev pub names_style_view : NamesStyle → NamesStyleView
 names_style_view s = record {

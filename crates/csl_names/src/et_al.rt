@@ -85,7 +85,7 @@ impl ListStyle<'_> {
                 push_word(ctx, self.delimiter, no_formatting())?;
                 push_word(ctx, "… ", no_formatting())?;
                 let place = persons.len() - 1;
-                self.push_whole(ctx, person.as_ref(), form, is_all(self.order), place)
+                self.push_name_element(ctx, person.as_ref(), form, is_all(self.order), place)
             }
         }
     }

@@ -76,7 +76,7 @@ pub(crate) fn is_reversed(order: Option<NameAsSortOrder>, place: usize) -> bool
 
 impl ListStyle<'_> {
     /// Writes one name in an element of its own.
-    pub(crate) fn push_whole<T>(
+    pub(crate) fn push_name_element<T>(
         &self,
         ctx: &mut Context<'_, T>,
         person: &Person,
@@ -96,7 +96,7 @@ impl ListStyle<'_> {
 
     /// Writes the names up to the first without a form. `ends` is the number of names if all are
     /// shown.
-    fn push_names<T>(
+    fn push_shown_names<T>(
         &self,
         ctx: &mut Context<'_, T>,
         ends: Option<usize>,
@@ -116,7 +116,7 @@ impl ListStyle<'_> {
                 Some(form) => {
                     self.push_join(ctx, ends, place)?;
                     let reversed = is_reversed(self.order, place);
-                    self.push_whole(ctx, person.as_ref(), form, reversed, place)?;
+                    self.push_name_element(ctx, person.as_ref(), form, reversed, place)?;
                 }
             }
             place += 1;
@@ -136,9 +136,9 @@ impl ListStyle<'_> {
             (map (λ p. person_view (cow_value p)) persons.now) forms.now) result ctx.old ctx.new }
     {
         match first_absent(forms) {
-            None => self.push_names(ctx, Some(persons.len()), forms, persons),
+            None => self.push_shown_names(ctx, Some(persons.len()), forms, persons),
             Some(names) => {
-                self.push_names(ctx, None, forms, persons)?;
+                self.push_shown_names(ctx, None, forms, persons)?;
                 self.push_cut_end(ctx, names, forms, persons)
             }
         }

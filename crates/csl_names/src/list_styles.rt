@@ -20,12 +20,12 @@ use std::borrow::Cow;
 fn list_style<'n, 's: 'n, T>(
     ctx: &Context<'s, T>,
     name: &'n Name,
-    options: NameOptions<'n>,
+    options: &NameOptions<'n>,
     et_al: &EtAl,
     variable: NameVariable,
 ) -> ListStyle<'n>
     ensures { list_style_view result ≡ list_style_in ctx.now (view_name name.now)
-        (complete_options options.entry)
+        (complete_options options.now)
         (view_et_al et_al.now) variable }
 {
     ListStyle {
@@ -41,6 +41,25 @@ fn list_style<'n, 's: 'n, T>(
         et_al: et_al.term,
         et_al_formatting: et_al.formatting,
     }
+}
+
+/// Writes a list of names as [`write_name_list`] does, with options that are lent.
+pub(crate) fn push_list_by<T>(
+    ctx: &mut Context<'_, T>,
+    name: &Name,
+    options: &NameOptions<'_>,
+    et_al: &EtAl,
+    variable: NameVariable,
+    persons: &[Cow<'_, Person>],
+    forms: &[Option<DisambiguatedNameForm>],
+) -> Result<(), RenderError>
+    ensures { Runs (with_name_list (view_name name.now) (complete_options options.now)
+        (view_et_al et_al.now) variable (map (λ p. person_view (cow_value p)) persons.now)
+        forms.now)
+        result ctx.old ctx.new }
+{
+    let settings = list_style(ctx, name, options, et_al, variable);
+    settings.push_list(ctx, persons, forms)
 }
 
 /// Writes a list of names: those up to the first without a form, each in an element of its own,
@@ -60,6 +79,5 @@ pub fn write_name_list<T>(
         forms.now)
         result ctx.old ctx.new }
 {
-    let settings = list_style(ctx, name, options, et_al, variable);
-    settings.push_list(ctx, persons, forms)
+    push_list_by(ctx, name, &options, et_al, variable, persons, forms)
 }

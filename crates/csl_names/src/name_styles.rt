@@ -50,10 +50,10 @@ fn demotes(setting: DemoteNonDroppingParticle, sorting: bool) -> bool
 pub(crate) fn name_style<'n, T>(
     ctx: &Context<'_, T>,
     name: &'n Name,
-    options: NameOptions<'n>,
+    options: &NameOptions<'n>,
 ) -> NameStyle<'n>
     ensures { name_style_view result
-        ≡ name_style_in ctx.now (view_name name.now) (complete_options options.entry) }
+        ≡ name_style_in ctx.now (view_name name.now) (complete_options options.now) }
 {
     let settings = ctx.style().settings();
     let sorting = ctx.sorting().is_some();
@@ -82,7 +82,7 @@ pub fn write_name<T>(
         (complete_options options.entry) form reversed (person_view person.now)) result ctx.old
         ctx.new }
 {
-    let settings = name_style(ctx, name, options);
+    let settings = name_style(ctx, name, &options);
     let part = ctx.push_elem()?;
     settings.push_name(ctx, person, form, reversed)?;
     ctx.splice(part)?;

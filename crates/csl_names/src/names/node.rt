@@ -9,10 +9,9 @@ ghost use Rattle.csl_elements.specs.NamesParts.{parts_node, default_name, defaul
 ghost use Rattle.csl_tree.specs.Content.{◌++>◌, elem_content};
 ghost use Rattle.csl_tree.specs.Tokens.{meta_of};
 ghost use Rattle.csl_entry.specs.Answers.{cow_view};
-ghost use Rattle.csl_context.specs.Texts.{text_in, between_in};
+ghost use Rattle.csl_context.specs.Texts.{text_in};
 ghost use Rattle.csl_context.specs.ContextView.{Runs, IsInnermost, close_part_by, with_content};
-ghost use Rattle.csl_names.specs.CiteForms.{forms_in, with_first_forms, with_first_forms_by};
-ghost use Rattle.csl_names.specs.NamesContent.{names_style, with_lists, names_body, names_content, names_state, lists_meta, names_style_view};
+ghost use Rattle.csl_names.specs.NamesContent.{names_style, with_lists_kept, with_names_body, with_affixed_body, names_content, names_state, lists_meta, names_style_view};
 ghost use Rattle.csl_names.specs.PersonLists.{list_of};
 
 use crate::names::forms::count_of;
@@ -85,21 +84,14 @@ fn push_count<T>(ctx: &mut Context<'_, T>, count: usize) -> Result<(), RenderErr
 }
 
 /// Writes the lists, each name in its form. Keeps these forms if the state keeps none yet.
-fn push_all<T>(
+fn push_lists_keeping_forms<T>(
     ctx: &mut Context<'_, T>,
     style: &NamesStyle<'_>,
     variables: &[NameVariable],
     lists: &[PersonList<'_>],
 ) -> Result<(), RenderError>
-    ensures { Runs (λ now. record now {
-      inner = with_lists now.style
-          (is_some now.sorting) (names_style_view style.now) now.inherited true 0
-          (forms_in now.cite variables.now (names_style_view style.now).options
-          (map list_of lists.now)).lists (map list_of lists.now) now.inner;
-      state = with_first_forms (forms_in now.cite variables.now
-          (names_style_view style.now).options
-          (map list_of lists.now)) now.state;
-    }) result ctx.old ctx.new }
+    ensures { Runs (with_lists_kept (names_style_view style.now) variables.now
+        (map list_of lists.now)) result ctx.old ctx.new }
 {
     let forms = forms_in(ctx, variables, &style.options, lists)?;
     style.push_lists(ctx, lists, forms.name_forms())?;
@@ -116,23 +108,17 @@ fn push_body<T>(
     lists: &[PersonList<'_>],
 ) -> Result<(), RenderError>
     requires { OnFalse ctx.old.failed (ctx.old.inner ≡ []) }
-    ensures { Runs (λ now. record now {
-      inner =
-          names_body (names_style_view style.now).options.form now.style
-          (is_some now.sorting) now.cite
-          variables.now (names_style_view style.now) (map list_of lists.now) now.inherited;
-      state =
-          with_first_forms_by (names_style_view style.now).options.form
-          (forms_in now.cite variables.now
-          (names_style_view style.now).options (map list_of lists.now)) now.state;
-    }) result ctx.old ctx.new }
+    ensures { Runs (with_names_body (names_style_view style.now) variables.now
+        (map list_of lists.now)) result ctx.old ctx.new }
 {
     match style.options.form {
         NameForm::Count => {
             let later = !ctx.instance().cite_props.certain.is_first;
             push_count(ctx, count_of(&style.options, later, lists))
         }
-        NameForm::Short | NameForm::Long => push_all(ctx, style, variables, lists),
+        NameForm::Short | NameForm::Long => {
+            push_lists_keeping_forms(ctx, style, variables, lists)
+        }
     }
 }
 
@@ -146,19 +132,9 @@ fn push_affixed_body<T>(
     lists: &[PersonList<'_>],
 ) -> Result<(), RenderError>
     requires { OnFalse ctx.old.failed (ctx.old.inner ≡ []) }
-    ensures { Runs (λ now. record now {
-      inner =
-          between_in now.inherited (option_map (λ t. t.now) parts.now.prefix)
-          (option_map (λ t. t.now) parts.now.suffix)
-          (names_body (names_style_view style.now).options.form now.style
-          (is_some now.sorting) now.cite
-          parts.now.variables.now (names_style_view style.now) (map list_of lists.now)
-          now.inherited);
-      state =
-          with_first_forms_by (names_style_view style.now).options.form
-          (forms_in now.cite parts.now.variables.now
-          (names_style_view style.now).options (map list_of lists.now)) now.state;
-    }) result ctx.old ctx.new }
+    ensures { Runs (with_affixed_body (option_map (λ t. t.now) parts.now.prefix)
+        (option_map (λ t. t.now) parts.now.suffix) (names_style_view style.now)
+        parts.now.variables.now (map list_of lists.now)) result ctx.old ctx.new }
 {
     if parts.prefix.is_none() && parts.suffix.is_none() {
         return push_body(ctx, style, parts.variables, lists);

@@ -1,16 +1,16 @@
 //! The lists of a names node, each with its label, and delimiters between them (CSL 1.0.2, Names;
 //! Label in Names).
 
-ghost use Rattle.std.specs.Prelude.{◌≡◌, map, slice_get, option_map, is_some, true};
+ghost use Rattle.std.specs.Prelude.{◌≡◌, map, slice_get, option_map, true};
 ghost use Rattle.lit_model.specs.Person.{person_view};
 ghost use Rattle.csl_elements.specs.Names.{view_label};
 ghost use Rattle.csl_elements.specs.NamesParts.{placed_label};
 ghost use Rattle.csl_entry.specs.Answers.{cow_view};
 ghost use Rattle.csl_context.specs.ContextView.{Runs, with_content};
-ghost use Rattle.csl_names.specs.NamesContent.{label_content, label_on, with_label, with_list, with_labelled_list, with_list_if_any, is_skipped, with_lists, names_style_view};
+ghost use Rattle.csl_names.specs.NamesContent.{label_content, label_on, with_label, with_list, with_labelled_list, with_list_if_any, is_skipped, with_lists, with_names_written, names_style_view};
 ghost use Rattle.csl_names.specs.PersonLists.{list_of};
 
-use crate::list_styles::write_name_list;
+use crate::list_styles::push_list_by;
 use crate::names::lists::PersonList;
 use csl_context::{BodyDressing, Context, RenderError};
 use csl_entry::DisambiguatedNameForm;
@@ -80,12 +80,9 @@ impl NamesStyle<'_> {
         variable: NameVariable,
         count: usize,
     ) -> Result<(), RenderError>
-        ensures { Runs (λ now. record now {
-          inner = with_label now.style
-              (label_on (is_some now.sorting) after (names_style_view self.now).label) variable
-              count
-              now.inherited now.inner;
-        }) result ctx.old ctx.new }
+        ensures { Runs (with_names_written (λ w. with_label w
+            (label_on w.sorting after (names_style_view self.now).label) variable count))
+            result ctx.old ctx.new }
     {
         let sorting = ctx.sorting().is_some();
         match label_on(self.label, sorting, after) {
@@ -98,24 +95,21 @@ impl NamesStyle<'_> {
     }
 
     /// Writes the names of a list in the formatting of the name child.
-    fn push_names<T>(
+    fn push_list_names<T>(
         &self,
         ctx: &mut Context<'_, T>,
         persons: &[Cow<'_, Person>],
         variable: NameVariable,
         forms: &[Option<DisambiguatedNameForm>],
     ) -> Result<(), RenderError>
-        ensures { Runs (λ now. record now {
-          inner = with_list now.style
-              (is_some now.sorting) (names_style_view self.now) now.inherited
-              (map (cow_view person_view) persons.now) variable forms.now now.inner;
-        }) result ctx.old ctx.new }
+        ensures { Runs (with_names_written (λ w. with_list w (names_style_view self.now)
+            (map (cow_view person_view) persons.now) variable forms.now)) result ctx.old ctx.new }
     {
         let before = ctx.enter_format(self.name.formatting)?;
-        write_name_list(
+        push_list_by(
             ctx,
             self.name,
-            self.options,
+            &self.options,
             self.et_al,
             variable,
             persons,
@@ -127,7 +121,7 @@ impl NamesStyle<'_> {
 
     /// Writes a list: the delimiter, unless the list is the first; then label, names, label.
     #[tactic(auto, unfolding(crate::specs::NamesContent::with_labelled_list))]
-    fn push_one<T>(
+    fn push_labelled_list<T>(
         &self,
         ctx: &mut Context<'_, T>,
         first: bool,
@@ -135,22 +129,20 @@ impl NamesStyle<'_> {
         variable: NameVariable,
         forms: &[Option<DisambiguatedNameForm>],
     ) -> Result<(), RenderError>
-        ensures { Runs (λ now. record now {
-          inner = with_labelled_list now.style
-              (is_some now.sorting) (names_style_view self.now) now.inherited first
-              (map (cow_view person_view) persons.now) variable forms.now now.inner;
-        }) result ctx.old ctx.new }
+        ensures { Runs (with_names_written (λ w. with_labelled_list w (names_style_view self.now)
+            first (map (cow_view person_view) persons.now) variable forms.now))
+            result ctx.old ctx.new }
     {
         if !first {
             ctx.push_str(self.delimiter)?;
         }
         self.push_label(ctx, false, variable, persons.len())?;
-        self.push_names(ctx, persons, variable, forms)?;
+        self.push_list_names(ctx, persons, variable, forms)?;
         self.push_label(ctx, true, variable, persons.len())
     }
 
     /// Writes a list, unless it is empty or has no forms.
-    fn push_one_if<T>(
+    fn push_list_if_any<T>(
         &self,
         ctx: &mut Context<'_, T>,
         first: bool,
@@ -158,20 +150,16 @@ impl NamesStyle<'_> {
         variable: NameVariable,
         forms: Option<&[Option<DisambiguatedNameForm>]>,
     ) -> Result<(), RenderError>
-        ensures { Runs (λ now. record now {
-          inner = with_list_if_any now.style
-              (is_some now.sorting) (names_style_view self.now) now.inherited first
-              (map (cow_view person_view) persons.now) variable
-              (option_map (λ f. f.now) forms.entry)
-              now.inner;
-        }) result ctx.old ctx.new }
+        ensures { Runs (with_names_written (λ w. with_list_if_any w (names_style_view self.now)
+            first (map (cow_view person_view) persons.now) variable
+            (option_map (λ f. f.now) forms.entry))) result ctx.old ctx.new }
     {
         ctx.ensure_live()?;
         match forms {
             None => Ok(()),
             Some(forms) => {
                 if !persons.is_empty() {
-                    self.push_one(ctx, first, persons, variable, forms)?;
+                    self.push_labelled_list(ctx, first, persons, variable, forms)?;
                 }
                 Ok(())
             }
@@ -185,11 +173,9 @@ impl NamesStyle<'_> {
         lists: &[PersonList<'_>],
         forms: &[Vec<Option<DisambiguatedNameForm>>],
     ) -> Result<(), RenderError>
-        ensures { Runs (λ now. record now {
-          inner = with_lists now.style
-              (is_some now.sorting) (names_style_view self.now) now.inherited true 0
-              (map (λ f. f.items) forms.now) (map list_of lists.now) now.inner;
-        }) result ctx.old ctx.new }
+        ensures { Runs (with_names_written (λ w. with_lists w (names_style_view self.now)
+            true 0 (map (λ f. f.items) forms.now) (map list_of lists.now)))
+            result ctx.old ctx.new }
     {
         ctx.ensure_live()?;
         let mut first = true;
@@ -197,7 +183,7 @@ impl NamesStyle<'_> {
         for list in lists {
             let own = forms_at(forms, place);
             let skipped = is_skipped(&list.0, own);
-            self.push_one_if(ctx, first, &list.0, list.1, own)?;
+            self.push_list_if_any(ctx, first, &list.0, list.1, own)?;
             first = first && skipped;
             place += 1;
         }

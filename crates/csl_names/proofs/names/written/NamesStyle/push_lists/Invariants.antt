@@ -1,5 +1,5 @@
-use Rattle.std.proofs.Common.{◌≡◌, drop, map, true, false, is_some}
-use Rattle.csl_names.specs.NamesContent.{with_lists, names_style_view}
+use Rattle.std.proofs.Common.{◌≡◌, drop, map, true, false}
+use Rattle.csl_names.specs.NamesContent.{with_lists, with_names_written, names_style_view}
 use Rattle.csl_names.specs.PersonLists.{list_of}
 use Rattle.csl_names.proofs.names.written.NamesStyle.push_lists.Given as goal
 
@@ -8,6 +8,6 @@ abbrev pub invariant-loop-list : goal.invariant-loop-list
 invariant-loop-list g l = record {
   sound : l.initial.ctx.failed ≡ false;
   counted : l.place ≡ l.list-index;
-  left : record l.ctx { inner = with_lists l.ctx.style (is_some l.ctx.sorting) (names_style_view l.self) l.ctx.inherited l.first l.place (map (λ f. f.items) l.forms) (map list_of (drop l.list-index l.lists)) l.ctx.inner }
-      ≡ record l.initial.ctx { inner = with_lists l.initial.ctx.style (is_some l.initial.ctx.sorting) (names_style_view l.self) l.initial.ctx.inherited true 0 (map (λ f. f.items) l.forms) (map list_of l.lists) l.initial.ctx.inner };
+  left : with_names_written (λ w. with_lists w (names_style_view l.self) l.first l.place (map (λ f. f.items) l.forms) (map list_of (drop l.list-index l.lists))) l.ctx
+      ≡ with_names_written (λ w. with_lists w (names_style_view l.self) true 0 (map (λ f. f.items) l.forms) (map list_of l.lists)) l.initial.ctx;
 }

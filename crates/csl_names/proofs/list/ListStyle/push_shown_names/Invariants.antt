@@ -4,7 +4,7 @@ use Rattle.lit_model.specs.Person.{person_view}
 use Rattle.csl_names.specs.Piece.{with_pieces}
 use Rattle.csl_names.specs.NameList.{names_from}
 use Rattle.csl_names.specs.ListStyles.{list_style_view}
-use Rattle.csl_names.proofs.list.ListStyle.push_names.Given as goal
+use Rattle.csl_names.proofs.list.ListStyle.push_shown_names.Given as goal
 
 -- the context so far, with the names from this place on, is the context with all names
 abbrev pub invariant-loop-person : goal.invariant-loop-person
