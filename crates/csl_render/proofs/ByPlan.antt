@@ -1,43 +1,29 @@
 -- Rendering by a plan. The plan of a choice is that of the nodes that it takes. A call by a plan
 -- changes the context as the definition states.
-use Rattle.std.proofs.Common.{◌≡◌, ℕ, true, false, Option, Some, None, IfSome, Result, Ok, Err, List, option_copied, option_map, subst, sym, ◌∙◌}
+use Rattle.std.proofs.Common.{◌≡◌, ℕ, true, false, Option, Some, None, IfSome, Result, Ok, Err, List, option_map, subst, sym, ◌∙◌}
 use denote.Bor.{Bor}
-use Rattle.csl_elements.specs.Node.{ExpandedNode, ExpandedNodes, ExpandedSubstitutes, expand}
-use Rattle.csl_elements.specs.View.{view_names}
 use Rattle.csl_elements.specs.declared.element.Names.{Names}
+use Rattle.csl_elements.specs.NamesParts.{names_node, names_substitutes, first_substitute}
+use Rattle.csl_elements.specs.Node.{Nodes, ExpandedNode, ExpandedNodes, expand_nodes}
 use Rattle.csl_context.specs.ContextView.{ContextView, frame, Runs, Becomes, FailsAs}
 use Rattle.csl_context.specs.State.{State}
 use Rattle.csl_context.specs.RenderInput.{RenderInput}
 use Rattle.csl_context.specs.declared.error.RenderError.{RenderError}
 use Rattle.csl_context.specs.declared.error.RenderError.TheVariants.{Memory, Failed}
-use Rattle.csl_render.specs.declared.plan.ListPlan.{ListPlan}
 use Rattle.csl_render.specs.declared.plan.NodePlan.{NodePlan}
 use Rattle.csl_render.specs.declared.plan.PlanItem.{PlanItem}
-use Rattle.csl_render.specs.Plan.{DryView, dry_view, AreInside, AreItems, AreOfSubstitutes, IsPlan, ArePlans, HasPlans, HasPlansOfSubstitutes}
+use Rattle.csl_render.specs.Plan.{DryView, dry_view, AreInside, AreItems, AreOfTaken, IsPlan, HasPlans, HasPlansOfSubstitutes}
 use Rattle.csl_render.specs.Names.{expanded_substitutes_of}
-use Rattle.csl_render.proofs.Plans.{substitutes_inside}
-
--- a plan that is handed by reference
-pub lent : {X : Type 0} (P : X → Type 0) (o : Option X) (r : Option (Bor X)) → option_copied r ≡ o → IfSome o P → IfSome r (λ x. P x.now)
-lent P o None e h = tt
-lent P (Some x) (Some r) e h = let same : x ≡ r.now = cc in subst P same h
-lent P None (Some r) e h = absurd (cc)
-
--- the plan of the nodes inside
-pub inside_planned : (w : RenderInput) (fs : ExpandedNodes) (plan : Option (Bor NodePlan)) (inside : Option ListPlan) → IfSome plan (λ p. HasPlans w fs p.now) → inside ≡ option_map (λ p. p.now.inside) plan → IfSome inside (ArePlans w fs)
-inside_planned w fs None inside h same = rw same tt
-inside_planned w fs (Some p) inside h same = rw same h
-
--- names have a plan of their first substitute
-pub names_planned : (w : RenderInput) (s : State) (env : List ℕ → Option ExpandedNodes) (x : Names) (plan : Option (Bor NodePlan)) → IfSome plan (λ p. IsPlan w s (expand env (view_names x)) p.now) → IfSome plan (λ p. HasPlansOfSubstitutes w (expanded_substitutes_of env x) p.now)
-names_planned w s env x None h = tt
-names_planned w s env x (Some p) h = substitutes_inside w (dry_view p.now.inside.at.now) s env x p.now.inside.items.now h.2
+use Rattle.csl_render.proofs.Within.{planned_by}
 
 -- the plan of the first substitute is that of its children
-pub substitute_planned : (w : RenderInput) (ss : ExpandedSubstitutes) (fs : ExpandedNodes) → ((at : DryView) → (is : List PlanItem) → AreOfSubstitutes w at ss is → AreItems w at fs is)
-    → (plan : Option (Bor NodePlan)) → IfSome plan (λ p. HasPlansOfSubstitutes w ss p.now) → IfSome plan (λ p. HasPlans w fs p.now)
-substitute_planned w ss fs planned None h = tt
-substitute_planned w ss fs planned (Some p) h = planned (dry_view p.now.inside.at.now) p.now.inside.items.now h
+pub substitute_planned : (w : RenderInput) (env : List ℕ → Option ExpandedNodes) (x : Names) (ns : Nodes) → Some ns ≡ first_substitute (names_substitutes x)
+    → (plan : Option (Bor NodePlan)) → IfSome plan (λ p. HasPlansOfSubstitutes w (expanded_substitutes_of env x) p.now) → IfSome plan (λ p. HasPlans w (expand_nodes env ns) p.now)
+substitute_planned w env x ns here None h = tt
+substitute_planned w env x ns here (Some p) h =
+    let at = dry_view p.now.inside.at.now in
+    let is = p.now.inside.items.now in
+    subst (λ o. AreOfTaken w at (option_map (expand_nodes env) o) is) (sym here) (planned_by env (names_node x) w at (names_substitutes x) is h)
 
 -- the plan of a choice is that of the nodes that it takes
 pub taken_planned : (w : RenderInput) (s : State) (f : ExpandedNode) (fs : ExpandedNodes) → ((at : DryView) → (is : List PlanItem) → AreInside w at s f is → AreItems w at fs is)

@@ -1,17 +1,18 @@
 -- The children of a substitute, in the place of the names around them, have the same size, dry run
 -- and shown variables as elsewhere, and are names of the same variables. Of several substitutes the
 -- first one counts.
-use Rattle.std.proofs.Common.{◌≡◌, ℕ, ◌<◌, ◌+◌, suc, Bool, true, false, List, [], ◌∷◌, take, drop, Option, Some, None, option_map, IfSome, if◌then◌else◌, refl, ap, ap₂, arith}
+use Rattle.std.proofs.Common.{◌≡◌, ℕ, ◌<◌, ◌+◌, suc, Bool, true, false, List, [], ◌∷◌, take, drop, Option, Some, option_map, if◌then◌else◌, refl, ap, ap₂, arith}
 use Rattle.std.specs.Prelude.{◌||◌, ◌&&◌}
+use Rattle.csl_elements.specs.declared.element.Names.{Names}
 use Rattle.csl_elements.specs.declared.taxonomy.NameVariable.{NameVariable}
 use Rattle.csl_elements.specs.declared.taxonomy.Variable.{Variable}
 use Rattle.csl_elements.specs.Names.{NamesNode, shorthand_expansion}
-use Rattle.csl_elements.specs.NamesParts.{first_substitute}
+use Rattle.csl_elements.specs.NamesParts.{names_node, names_substitutes, first_substitute}
 use Rattle.csl_elements.specs.Node.{Node, text, call, number, label, date, names, choose, group, Nodes, no_nodes, node, Substitutes, no_substitutes, substitute, ExpandedNode, expanded_names, shorthand, ExpandedNodes, no_expanded_substitutes, is_childless, as_substitute_child, expand, expand_nodes, expand_substitutes, expand_substitute_nodes, size, sizes, expanded_substitutes_size}
 use Rattle.csl_context.specs.State.{State, Inherited}
 use Rattle.csl_context.specs.RenderInput.{RenderInput}
 use Rattle.csl_nodes.specs.Usage.{info_union, as_child_info, without_group_flag}
-use Rattle.csl_render.specs.Names.{is_names_of, any_is_names_of, choice_is_names_of, substitute_has_names_of}
+use Rattle.csl_render.specs.Names.{is_names_of, any_is_names_of, choice_is_names_of, substitute_has_names_of, expanded_substitutes_of}
 use Rattle.csl_render.specs.declared.plan.NodeInfo.{NodeInfo}
 use Rattle.csl_render.specs.declared.plan.PlanItem.{PlanItem}
 use Rattle.csl_render.specs.Plan.{DryView, AreItems, AreOfTaken, AreOfSubstitutes, IsInfo}
@@ -65,9 +66,9 @@ module _ (env : List ℕ → Option ExpandedNodes) (original : NamesNode) where
   named_within v (node n ns) = ap₂ (λ a b. a || b) (one_within (is_names_of v) (λ n m. refl) n) (named_within v ns)
 
   module _ (w : RenderInput) (s : State) where
-    said_within : (ns : Nodes) → nodes_info w s (expand_substitute_nodes env original ns) ≡ nodes_info w s (expand_nodes env ns)
-    said_within no_nodes = refl
-    said_within (node n ns) = ap₂ info_union (one_within (λ f. as_child_info (is_group f) (info w s f)) (λ n m. refl) n) (said_within ns)
+    info_within : (ns : Nodes) → nodes_info w s (expand_substitute_nodes env original ns) ≡ nodes_info w s (expand_nodes env ns)
+    info_within no_nodes = refl
+    info_within (node n ns) = ap₂ info_union (one_within (λ f. as_child_info (is_group f) (info w s f)) (λ n m. refl) n) (info_within ns)
 
     shown_within : (v : Variable) (ns : Nodes) → any_shows w s v (expand_substitute_nodes env original ns) ≡ any_shows w s v (expand_nodes env ns)
     shown_within v no_nodes = refl
@@ -75,11 +76,11 @@ module _ (env : List ℕ → Option ExpandedNodes) (original : NamesNode) where
 
     -- ---- the first substitute
 
-    pub said_by : (ss : Substitutes) → substitute_info w s (expand_substitutes env original ss) ≡ choice_info w s (option_map (expand_nodes env) (first_substitute ss))
-    said_by no_substitutes = refl
-    said_by (substitute ns ss) = ap without_group_flag (said_within ns)
+    pub info_by : (ss : Substitutes) → substitute_info w s (expand_substitutes env original ss) ≡ choice_info w s (option_map (expand_nodes env) (first_substitute ss))
+    info_by no_substitutes = refl
+    info_by (substitute ns ss) = ap without_group_flag (info_within ns)
 
-    pub shown_by : (v : Variable) (ss : Substitutes) → substitute_shows w s v (expand_substitutes env original ss) ≡ choice_shows w s v (option_map (expand_nodes env) (first_substitute ss))
+    shown_by : (v : Variable) (ss : Substitutes) → substitute_shows w s v (expand_substitutes env original ss) ≡ choice_shows w s v (option_map (expand_nodes env) (first_substitute ss))
     shown_by v no_substitutes = refl
     shown_by v (substitute ns ss) = shown_within v ns
 
@@ -110,15 +111,27 @@ module _ (env : List ℕ → Option ExpandedNodes) (original : NamesNode) where
   named_by v no_substitutes = refl
   named_by v (substitute ns ss) = named_within v ns
 
-  pub made_by : (w : RenderInput) (ss : Substitutes) (inh : Inherited) (s : State) → substitute_output w (expand_substitutes env original ss) inh s ≡ first_substitute_output w (option_map (expand_substitute_nodes env original) (first_substitute ss)) inh s
-  made_by w no_substitutes inh s = refl
-  made_by w (substitute ns ss) inh s = refl
+  output_by : (w : RenderInput) (ss : Substitutes) (inh : Inherited) (s : State) → substitute_output w (expand_substitutes env original ss) inh s ≡ first_substitute_output w (option_map (expand_substitute_nodes env original) (first_substitute ss)) inh s
+  output_by w no_substitutes inh s = refl
+  output_by w (substitute ns ss) inh s = refl
 
-  pub inside_by : {A : Type 0} (f : A → Nodes) (o : Option A) (ss : Substitutes) → option_map f o ≡ first_substitute ss → IfSome o (λ a. sizes (expand_nodes env (f a)) < expanded_substitutes_size (expand_substitutes env original ss))
-  inside_by f None ss h = tt
-  inside_by f (Some a) no_substitutes h = grind (arith, h)
-  inside_by f (Some a) (substitute ns ss) h =
-      let same : f a ≡ ns = cc in
+  smaller_by : (ss : Substitutes) (ns : Nodes) → Some ns ≡ first_substitute ss → sizes (expand_nodes env ns) < expanded_substitutes_size (expand_substitutes env original ss)
+  smaller_by no_substitutes ns h = grind (arith, h)
+  smaller_by (substitute ms ss) ns h =
+      let same : ns ≡ ms = cc in
       let same_size = ap (λ n. sizes (expand_nodes env n)) same in
-      let as_large = sizes_within ns in
+      let as_large = sizes_within ms in
       omega arith
+
+-- ---- the first substitute of a names node
+
+module _ (env : List ℕ → Option ExpandedNodes) (x : Names) where
+  -- substitutes are larger than the children of the first
+  pub first_is_smaller : (ns : Nodes) → Some ns ≡ first_substitute (names_substitutes x) → sizes (expand_nodes env ns) < expanded_substitutes_size (expanded_substitutes_of env x)
+  first_is_smaller ns here = smaller_by env (names_node x) (names_substitutes x) ns here
+
+  pub shows_of_substitute : (w : RenderInput) (s : State) (v : Variable) → substitute_shows w s v (expanded_substitutes_of env x) ≡ choice_shows w s v (option_map (expand_nodes env) (first_substitute (names_substitutes x)))
+  shows_of_substitute w s v = shown_by env (names_node x) w s v (names_substitutes x)
+
+  pub output_of_substitute : (w : RenderInput) (inh : Inherited) (s : State) → substitute_output w (expanded_substitutes_of env x) inh s ≡ first_substitute_output w (option_map (expand_substitute_nodes env (names_node x)) (first_substitute (names_substitutes x))) inh s
+  output_of_substitute w inh s = output_by env (names_node x) w (names_substitutes x) inh s

@@ -1,27 +1,25 @@
 //! Names (CSL 1.0.2, Names; Substitute): the dry run, shown variables and content of a names node.
 
-ghost use Rattle.std.specs.Prelude.{◌≡◌, Bool, ◌<◌, ◌&&◌, ◌||◌, List, [], false, true, map, IfOk, IfSome, option_map, if◌then◌else◌};
+ghost use Rattle.std.specs.Prelude.{◌≡◌, Bool, ◌&&◌, ◌||◌, [], false, true, map, IfOk, IfSome, option_map, if◌then◌else◌};
 ghost use Rattle.csl_elements.specs.declared.taxonomy.Variable.{Variable};
 ghost use Rattle.csl_elements.specs.declared.taxonomy.NameVariable.{NameVariable};
 ghost use Rattle.csl_elements.specs.Names.{NamesNode, shorthand_expansion};
 ghost use Rattle.csl_elements.specs.NamesParts.{names_node, names_substitutes, first_substitute, parts_node};
-ghost use Rattle.csl_elements.specs.Node.{ExpandedNode, expand, expand_nodes, expand_substitute_nodes, no_expanded_substitutes, sizes, expanded_substitutes_size, as_substitute_child};
+ghost use Rattle.csl_elements.specs.Node.{ExpandedNode, expand, expand_nodes, expand_substitute_nodes, no_expanded_substitutes, as_substitute_child};
 ghost use Rattle.csl_elements.specs.View.{view_node, view_nodes, view_names};
 ghost use Rattle.csl_style.specs.Expanded.{macro_env};
-ghost use Rattle.csl_context.specs.State.{Inherited, State};
 ghost use Rattle.csl_context.specs.ContextView.{Runs, Gives, render_input};
 ghost use Rattle.csl_names.specs.NamesForms.{writes_no_name};
 ghost use Rattle.csl_names.specs.NamesLists.{all_empty, peeked_lists};
 ghost use Rattle.csl_names.specs.PersonLists.{list_of};
-ghost use Rattle.csl_render.specs.declared.plan.PlanItem.{PlanItem};
 ghost use Rattle.csl_render.specs.DryRun.{Adds};
-ghost use Rattle.csl_render.specs.Expanded.{expanded, expanded_nodes, expanded_taken, expanded_substitutes};
+ghost use Rattle.csl_render.specs.Expanded.{expanded, expanded_substitutes};
 ghost use Rattle.csl_render.specs.Names.{Macros, author, has_variable, is_of_names, is_names_of, any_is_names_of, substitute_has_names_of, expanded_substitutes_of, standing_in, refuses_alone, is_refused, names_show, names_or_substitute_info, in_substitute, suppressing_from, boxed_substitute};
 ghost use Rattle.csl_nodes.specs.Text.{Appends, render_output};
 ghost use Rattle.csl_nodes.specs.Usage.{info_view, no_info};
-ghost use Rattle.csl_render.specs.Plan.{asks_for_author, dry_now, DryView, AreOfTaken, AreOfSubstitutes, IsInfoOfSubstitutes, IsDryRunOf, TellsAuthorOf, IsPlanOf, HasPlansOf, HasPlansWithin};
+ghost use Rattle.csl_render.specs.Plan.{asks_for_author, dry_now, IsInfoOfSubstitutes, IsDryRunOf, TellsAuthorOf, IsPlanOf, HasPlansOf, HasPlansWithin};
 ghost use Rattle.csl_render.specs.Rendering.{with_whole_output};
-ghost use Rattle.csl_render.specs.Tree.{node_output, substitute_shows, substitute_info, substitute_output, output_until_text, first_substitute_output, choice_info, choice_shows, refused_in, names_output, shorthand_output};
+ghost use Rattle.csl_render.specs.Tree.{node_output, substitute_shows, substitute_output, output_until_text, refused_in, names_output, shorthand_output};
 
 use crate::dry_run::DryRun;
 use crate::element::{any_shows, nodes_info};
@@ -122,8 +120,9 @@ fn void_info(refused: bool, inside: (bool, UsageInfo)) -> (bool, UsageInfo)
     names_or_substitute_info(true, inside)
 }
 
-/// The children of the first substitute.
-fn first_nodes(names: &Names) -> Option<&[LayoutRenderingElement]>
+/// The children of the first `cs:substitute`. The dry run, shown variables and content of the
+/// substitutes come from these children alone.
+fn substitute_children(names: &Names) -> Option<&[LayoutRenderingElement]>
     ensures { option_map (λ ns. view_nodes ns.now) result
         ≡ first_substitute (names_substitutes names.now) }
 {
@@ -131,39 +130,6 @@ fn first_nodes(names: &Names) -> Option<&[LayoutRenderingElement]>
         Some(substitute) => Some(substitute.children.as_slice()),
         None => None,
     }
-}
-
-/// The children of the first `cs:substitute`. The dry run, shown variables and content of the
-/// substitutes come from these children alone. In dry runs and queries, names without children
-/// among them count as they do elsewhere. The plan of the substitutes is that of these children.
-fn substitute_nodes<'n, 's, T: EntryLike>(
-    ctx: &Context<'s, T>,
-    names: &'n Names,
-) -> Option<&'n [LayoutRenderingElement]>
-    ensures inside { IfSome result (λ ns. sizes (expanded_nodes ctx.now.style (view_nodes ns.now))
-        < expanded_substitutes_size (expanded_substitutes ctx.now.style names.now)) }
-    ensures info { (s : State) → substitute_info (render_input T.answers ctx.now) s
-        (expanded_substitutes ctx.now.style names.now)
-        ≡ choice_info (render_input T.answers ctx.now) s (expanded_taken ctx.now.style result) }
-    ensures shown { (s : State) → (v : Variable) → substitute_shows
-        (render_input T.answers ctx.now) s v (expanded_substitutes ctx.now.style names.now)
-        ≡ choice_shows (render_input T.answers ctx.now) s v
-        (expanded_taken ctx.now.style result) }
-    ensures output { (inh : Inherited) → (s : State) → substitute_output
-        (render_input T.answers ctx.now) (expanded_substitutes ctx.now.style names.now) inh s
-        ≡ first_substitute_output (render_input T.answers ctx.now)
-        (option_map (expand_substitute_nodes (macro_env ctx.now.style) (names_node names.now))
-        (option_map (λ ns. view_nodes ns.now) result)) inh s }
-    ensures from_nodes { (at : DryView) → (items : List PlanItem)
-        → AreOfTaken (render_input T.answers ctx.now) at (expanded_taken ctx.now.style result) items
-        → AreOfSubstitutes (render_input T.answers ctx.now) at
-        (expanded_substitutes ctx.now.style names.now) items }
-    ensures to_nodes { (at : DryView) → (items : List PlanItem)
-        → AreOfSubstitutes (render_input T.answers ctx.now) at
-        (expanded_substitutes ctx.now.style names.now) items
-        → AreOfTaken (render_input T.answers ctx.now) at (expanded_taken ctx.now.style result) items }
-{
-    first_nodes(names)
 }
 
 /// Whether the node is a `cs:names` of the variable.
@@ -208,7 +174,7 @@ fn substitute_has_names_of(variable: NameVariable, names: &Names) -> bool
     ensures { (env : Macros) → result ≡ substitute_has_names_of variable
         (expanded_substitutes_of env names.now) }
 {
-    match first_nodes(names) {
+    match substitute_children(names) {
         Some(nodes) => any_is_names_of(variable, nodes),
         None => false,
     }
@@ -254,7 +220,7 @@ fn substitute_info<'c, 's, T: EntryLike>(
         (dry_now run.old.now) (expanded_substitutes run.old.now.style names.now) i)
         run.old run.new) }
 {
-    match substitute_nodes(run.context(), names) {
+    match substitute_children(names) {
         Some(nodes) => {
             let info = nodes_info(nodes, run)?;
             Ok(info.with_answer(without_group_flag(info.answer)))
@@ -361,6 +327,7 @@ impl Node for Names {
 
 /// Whether names show the variable. `is_empty` is whether they have no persons.
 #[cycle(shows)]
+#[tactic(auto, using(crate::proofs::Within::shows_of_substitute))]
 fn names_or_substitute_show<'c, 's, T: EntryLike>(
     names: &'s Names,
     query: &mut Query<'c, 's, T>,
@@ -378,7 +345,7 @@ fn names_or_substitute_show<'c, 's, T: EntryLike>(
     if !is_empty {
         return Ok(false);
     }
-    match substitute_nodes(query.context(), names) {
+    match substitute_children(names) {
         Some(nodes) => any_shows(nodes, query),
         None => Ok(false),
     }
@@ -492,6 +459,7 @@ fn render_lists<'p, 's, T: EntryLike>(
 
 /// Renders the substitute of names without persons, if there is one.
 #[cycle(render)]
+#[tactic(auto, using(crate::proofs::Within::output_of_substitute))]
 fn render_substitute<'p, 's, T: EntryLike>(
     ctx: &mut Context<'s, T>,
     names: &'s Names,
@@ -504,7 +472,7 @@ fn render_substitute<'p, 's, T: EntryLike>(
         (in_substitute (names_node names.now) inherited) (suppressing_from s)) s)
         result ctx.old ctx.new }
 {
-    match substitute_nodes(ctx, names) {
+    match substitute_children(names) {
         Some(nodes) => render_first_substitute(ctx, nodes, names, lists, plan),
         None => push_nothing(ctx),
     }

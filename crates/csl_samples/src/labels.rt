@@ -31,18 +31,20 @@ impl BuiltIn {
     }
 }
 
-/// The label, with three letters, of an [`Entry`] that is this built-in entry.
-fn label_of(alloc: Global, entry: BuiltIn, work: &Entry) -> Result<String, Memory>
-    requires { IsBuiltIn entry work.now }
-    ensures { IfOk result (λ label. string_bytes label ≡ label_text entry) }
+/// The label, with three letters, of an [`Entry`] that is this built-in entry. Which one it is
+/// matters for the clauses alone.
+fn label_of(alloc: Global, _entry: BuiltIn, work: &Entry) -> Result<String, Memory>
+    requires { IsBuiltIn _entry work.now }
+    ensures { IfOk result (λ label. string_bytes label ≡ label_text _entry) }
 {
     Alphanumerical::new().citation(alloc, work)
 }
 
-/// Whether an [`Entry`] that is this built-in entry is of a kind.
-fn is_of_kind(entry: BuiltIn, kind: Kind, work: &Entry) -> bool
-    requires { IsBuiltIn entry work.now }
-    ensures { result ≡ is_built_in_kind kind entry }
+/// Whether an [`Entry`] that is this built-in entry is of a kind. Which one it is matters for the
+/// clauses alone.
+fn is_of_kind(_entry: BuiltIn, kind: Kind, work: &Entry) -> bool
+    requires { IsBuiltIn _entry work.now }
+    ensures { result ≡ is_built_in_kind kind _entry }
 {
     work.matches_entry_type(kind)
 }

@@ -17,7 +17,7 @@ returns g c =
     let at = dry_now now in
     let ns = view_nodes c.args.nodes.now in
     let fs = expand_nodes (macro_env now.style) ns in
-    let f = expanded_macro fs (text_dressing c.args.text.now) in
+    let f = expanded_macro fs (text_dressing c.args._text.now) in
     let nodes = c.in_ok-info.info in
     let call = c.with_answer-call in
     let start : Run g.row.T.Denot = record { now = now; items = [] } in
