@@ -1,4 +1,4 @@
-pub mod Errors
+pub mod Error
 pub mod Words
 pub mod Language
 pub mod Languages

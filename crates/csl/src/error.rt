@@ -1,7 +1,7 @@
 //! One error type for the errors of all crates.
 
 ghost use Rattle.std.specs.Prelude.{◌≡◌, Some};
-ghost use Rattle.csl.specs.Errors.{error_text, of_html, of_numeric, of_style};
+ghost use Rattle.csl.specs.Error.{error_text, of_html, of_numeric, of_style};
 ghost use Rattle.csl.specs.declared.error.Error.TheVariants as errors;
 
 use csl_context::RenderError;

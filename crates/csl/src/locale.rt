@@ -1,4 +1,5 @@
 //! The locales of languages (CSL 1.0.2, Locale).
+//! Definitions: specs/Language.antt, specs/Languages.antt, specs/Words.antt.
 
 ghost use Rattle.std.specs.Prelude.{◌≡◌, false, true, IfOk, map};
 ghost use Rattle.csl_elements.specs.Locale.{term_view, ordinal_view};

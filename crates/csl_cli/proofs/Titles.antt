@@ -12,16 +12,16 @@ use Rattle.csl_elements.specs.Node.{ExpandedNode, expand, LayoutNode, expand_lay
 use Rattle.csl_style.specs.Style.{StyleParts}
 use Rattle.csl_style.specs.Expanded.{macro_env}
 use Rattle.csl_tree.specs.Tokens.{Token}
-use Rattle.csl_tree.specs.Writing.{text_in_format}
+use Rattle.csl_tree.specs.Write.{text_in_format}
 use Rattle.csl_tree.specs.declared.elem.BufWriteFormat.{BufWriteFormat}
 use Rattle.csl_tree.specs.declared.elem.BufWriteFormat.TheVariants.{Plain, Html}
 use Rattle.csl_entry.specs.Cite.{first_cite, no_disambiguation}
-use Rattle.csl_context.specs.ContextView.{base_inherited, initial_state}
+use Rattle.csl_context.specs.Context.{base_inherited, initial_state}
 use Rattle.csl_context.specs.State.{Inherited, with_node_formatting}
 use Rattle.csl_context.specs.RenderInput.{RenderInput}
 use Rattle.csl_nodes.specs.Usage.{should_render_group, Info, info_of, usage_flags, no_usage_flags, no_info, info_union, as_child_info}
 use Rattle.csl_nodes.specs.Text.{RenderOutput, render_output, then_output}
-use Rattle.csl_render.specs.PairOutput.{cite_input}
+use Rattle.csl_render.specs.Pair.{cite_input}
 use Rattle.csl_render.specs.Tree.{delimited_child_output, group_output, in_group, layout_output, node_output}
 use Rattle.csl_samples.specs.Nodes.{only_affixes}
 use Rattle.csl_samples.specs.Title as built

@@ -5,7 +5,7 @@ use Rattle.std.specs.Prelude.{◌≡◌, ◌⊎◌, ℕ, Bool, true, false, List
 use Rattle.std.specs.Fmt.{WritesInCalls}
 use Rattle.csl_tree.specs.Html.{IsHtmlOf, IsNotHtml}
 use Rattle.csl_tree.specs.Tokens.{Token, tokens}
-use Rattle.csl_tree.specs.Writing.{text_in_format}
+use Rattle.csl_tree.specs.Write.{text_in_format}
 use Rattle.csl_samples.specs.Entries.{label_text, is_built_in_kind}
 use Rattle.csl_cli.specs.Content.{title_text, IsEntryContent}
 use Rattle.csl_cli.specs.Command.{CommandView, title_in, cite_in, label_of, kind_of, leaf_of, missing, unknown}

@@ -11,8 +11,8 @@ use Rattle.csl_tree.specs.Escapes.{escape_all}
 use Rattle.csl_tree.specs.Tokens.{Token}
 use Rattle.csl_tree.specs.declared.elem.BufWriteFormat.{BufWriteFormat}
 use Rattle.csl_tree.specs.declared.elem.BufWriteFormat.TheVariants.{Plain, Html}
-use Rattle.csl_entry.specs.EntryAnswers.{answers_of}
-use Rattle.csl_render.specs.CiteContent.{cite_content}
+use Rattle.csl_entry.specs.Entry.{answers_of}
+use Rattle.csl_render.specs.Cites.{cite_content}
 use Rattle.lit_model.specs.declared.entry.Entry.{Entry}
 use Rattle.lit_model.specs.Text.{in_one_piece}
 use Rattle.csl_samples.specs.Entries.{IsBuiltIn}

@@ -2,7 +2,7 @@
 
 ghost use Rattle.std.specs.Prelude.{◌≡◌, IfOk};
 ghost use Rattle.csl_tree.specs.Tokens.{tokens};
-ghost use Rattle.csl_render.specs.CiteContent.{cite_content};
+ghost use Rattle.csl_render.specs.Cites.{cite_content};
 ghost use Rattle.csl_cli.specs.Content.{IsEntryContent, IsTitleContent};
 
 use csl_context::{RenderError, Rendered};

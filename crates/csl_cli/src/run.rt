@@ -1,4 +1,5 @@
 //! The program's work, over any two writers.
+//! Definitions: specs/Answers.antt, specs/Command.antt.
 
 ghost use Rattle.std.specs.Prelude.{◌≡◌, ◌⊎◌, None, OnOk, OnErr, is_ok, true, if◌then◌else◌};
 ghost use Rattle.csl_cli.specs.Answers.{Complains, HasNoAnswer, IsRefused, OneRefuses, Replies, TakesLine};

@@ -1,5 +1,4 @@
 -- The definitions that several crates of literature and styles share.
 pub mod Lists
-pub mod Ordinals
+pub mod Ordinal
 pub mod Sink
-pub mod TrackingWriter

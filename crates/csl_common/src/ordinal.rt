@@ -10,7 +10,7 @@ pub enum GrammarGender {
 /// The ordinals of a locale (CSL 1.0.2, Ordinals).
 pub trait Ordinals {
     ghost use Rattle.std.specs.Prelude.{◌≡◌, option_map};
-    ghost use Rattle.csl_common.specs.Ordinals.{OrdinalTexts};
+    ghost use Rattle.csl_common.specs.Ordinal.{OrdinalTexts};
 
     /// The suffix of a number's ordinal, if there is one.
     ghost ordinals: { Self → OrdinalTexts };

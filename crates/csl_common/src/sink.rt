@@ -7,7 +7,7 @@
 ghost use Rattle.std.specs.Prelude.{◌≡◌, ℕ, List, Bool, false, true, OnOk, OnErr};
 ghost use Rattle.std.specs.Fmt.{WritesInCalls, WritesOnOk, WritesStyledOnOk, HasWrittenStyled, IsFlush};
 ghost use Rattle.csl_common.specs.Sink.{concat_texts};
-ghost use Rattle.csl_common.specs.TrackingWriter.{writer_of, has_refused, formatter_of, has_refused_part};
+ghost use Rattle.csl_common.specs.Sink.{writer_of, has_refused, formatter_of, has_refused_part};
 
 use std::fmt;
 

@@ -9,7 +9,7 @@ use Rattle.csl_tree.specs.Content.{◌++>◌}
 use Rattle.csl_tree.specs.Tokens.{Token}
 use Rattle.csl_context.specs.State.{State, Inherited, with_node_formatting}
 use Rattle.csl_context.specs.Quotes.{quoted_content, quoted_between}
-use Rattle.csl_context.specs.ContextView.{ContextView, Becomes, FailsAs, frame, close_part_into}
+use Rattle.csl_context.specs.Context.{ContextView, Becomes, FailsAs, frame, close_part_into}
 use Rattle.csl_context.specs.Bodies.{BodyAttributes, values_before, with_open_body, with_closed_body, HasOpenParts, HasOpenBody, has_affixes, close_part_if, with_quotes_closed, around_body}
 use Rattle.csl_context.specs.declared.bodies.OpenBody.{OpenBody}
 use Rattle.csl_context.specs.declared.error.RenderError.{RenderError}

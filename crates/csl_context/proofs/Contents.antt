@@ -8,7 +8,7 @@ use Rattle.csl_tree.specs.Content.{IsContent, nothing, text_then, markup_then, l
 use Rattle.csl_tree.specs.declared.formatting.Formatted.{Formatted}
 use Rattle.csl_tree.specs.Flat.{OpenParts, only_root, with_tokens, open_part, close_part, affix_content}
 use Rattle.csl_tree.proofs.ContentLaws.{IsContent-join, IsContent-text}
-use Rattle.csl_context.specs.Contents.{AreContents, HasContents}
+use Rattle.csl_context.specs.Context.{AreContents, HasContents}
 
 pub at_the_root : (p : OpenParts) → p ≡ only_root → HasContents p
 at_the_root p e = subst HasContents (sym e) (nothing, tt)

@@ -1,6 +1,6 @@
 -- Calls of a context, one after another.
 use Rattle.std.proofs.Common.{◌≡◌, ℕ, false, List, Option, ap, ◌∙◌}
-use Rattle.csl_context.specs.ContextView.{ContextView, Becomes, with_inherited_delimiter}
+use Rattle.csl_context.specs.Context.{ContextView, Becomes, with_inherited_delimiter}
 
 module _ {T : Type 0} (f g : ContextView T → ContextView T) (a b c : ContextView T) where
   -- a call, and another one after it

@@ -20,8 +20,7 @@ use Rattle.csl_tree.proofs.TreeEqual.{children_decide}
 use Rattle.csl_entry.specs.NameProperties.{name_properties}
 use Rattle.csl_entry.specs.contracts.forms.name_properties.NameDisambiguationPropertiesPartialEq.TheImpl.{eq-value as eq_properties}
 use Rattle.csl_entry.proofs.PropertiesEqual.{properties_decide}
-use Rattle.csl_context.specs.State.{State}
-use Rattle.csl_context.specs.LeftState.{left_state_view}
+use Rattle.csl_context.specs.State.{State, left_state_view}
 use Rattle.csl_context.specs.declared.context.LeftState.{LeftState}
 use Rattle.csl_context.specs.declared.context.Rendered.{Rendered}
 use Rattle.csl_context.specs.contracts.context.LeftStatePartialEq.TheImpl.{eq-value as eq_state}

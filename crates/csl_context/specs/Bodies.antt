@@ -15,7 +15,7 @@ use Rattle.csl_context.specs.declared.bodies.BodyDressing.{BodyDressing}
 use Rattle.csl_context.specs.declared.bodies.OpenBody.{OpenBody}
 use Rattle.csl_context.specs.State.{Inherited}
 use Rattle.csl_context.specs.Quotes.{toggled_if, moved_if, quoted_content, affixed_after}
-use Rattle.csl_context.specs.ContextView.{ContextView, with_part, close_part_by}
+use Rattle.csl_context.specs.Context.{ContextView, with_part, close_part_by}
 
 -- the attributes of a node that apply to its body
 pub record BodyAttributes : Type 0 where

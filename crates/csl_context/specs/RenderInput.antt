@@ -24,10 +24,10 @@ use Rattle.csl_elements.specs.declared.taxonomy.DateVariable.{DateVariable}
 use Rattle.csl_elements.specs.declared.taxonomy.Variable.TheVariants as variable
 use Rattle.csl_elements.specs.declared.term.Term.{Term}
 use Rattle.csl_elements.specs.declared.term.TermForm.{TermForm}
-use Rattle.csl_elements.specs.Date.{date_in_form}
+use Rattle.csl_elements.specs.Lookup.{date_in_form}
 use Rattle.csl_elements.specs.Locale.{TermView, terms_of, ordinals_of}
 use Rattle.csl_elements.specs.Node.{DateNode}
-use Rattle.csl_elements.specs.Ordinal.{ordinals, long_ordinals}
+use Rattle.csl_elements.specs.Ordinals.{ordinals, long_ordinals}
 use Rattle.csl_style.specs.Style.{StyleParts}
 use Rattle.csl_elements.specs.Term.{term_text, term_gender}
 use Rattle.csl_elements.specs.View.{view_date}

@@ -7,7 +7,7 @@ ghost use Rattle.std.specs.Bool.{OnTrue};
 ghost use Rattle.csl_elements.specs.Dressing.{affix_texts};
 ghost use Rattle.csl_context.specs.Bodies.{body_attributes, has_affixes, values_before, HasOpenBody, with_affixes_closed, with_quotes_closed, with_parts_opened, with_body_inherited, with_open_body, with_closed_body, moved_in, around_body, with_formatting};
 ghost use Rattle.csl_context.specs.Quotes.{toggled_if};
-ghost use Rattle.csl_context.specs.ContextView.{Runs};
+ghost use Rattle.csl_context.specs.Context.{Runs};
 
 use crate::context::Context;
 use crate::error::RenderError;
@@ -115,7 +115,7 @@ impl<'s, T> Context<'s, T> {
 
     /// Closes the part inside the quotes, if there are any. Returns whether the front of the suffix
     /// moved into the quotes.
-    #[tactic(auto, unfolding(crate::specs::ContextView::with_quotes))]
+    #[tactic(auto, unfolding(crate::specs::Context::with_quotes))]
     fn close_quotes_if(&mut self, around: BodyDressing<'_>) -> Result<bool, RenderError>
         requires live { self.old.failed ≡ false }
         requires parts { HasOpenBody (body_attributes around) self.old }

@@ -2,14 +2,14 @@
 
 ghost use Rattle.std.specs.Prelude.{◌≡◌, ◌↔◌, [], false, true, IfOk, OnOk, IfErr, option_map};
 ghost use Rattle.std.specs.Bool.{OnFalse};
-ghost use Rattle.csl_elements.specs.NameOptions.{inherited_options};
+ghost use Rattle.csl_elements.specs.NamesOptions.{inherited_options};
 ghost use Rattle.csl_tree.specs.Content.{IsContent};
 ghost use Rattle.csl_tree.specs.Tokens.{tokens};
 ghost use Rattle.csl_entry.specs.Cite.{cite_state};
 ghost use Rattle.csl_entry.specs.NameProperties.{name_properties};
 ghost use Rattle.csl_context.specs.ContextState.{context_state_view};
-ghost use Rattle.csl_context.specs.ContextView.{Gives, new_context, initial_state};
-ghost use Rattle.csl_context.specs.LeftState.{left_state_view};
+ghost use Rattle.csl_context.specs.Context.{Gives, new_context, initial_state};
+ghost use Rattle.csl_context.specs.State.{left_state_view};
 
 use crate::error::RenderError;
 use crate::state::ContextState;
@@ -53,12 +53,11 @@ impl<'s, T> Model for Context<'s, T> {
     ghost use Rattle.std.specs.Coded.{codes};
     ghost use Rattle.csl_elements.specs.contracts.element.CslMacro as of_macro;
     ghost use Rattle.csl_elements.specs.contracts.element.Layout as of_layout;
-    ghost use Rattle.csl_elements.specs.NameOptions.{inherited_options};
+    ghost use Rattle.csl_elements.specs.NamesOptions.{inherited_options};
     ghost use Rattle.csl_elements.specs.SetCode.{set_code};
     ghost use Rattle.csl_entry.specs.Cite.{cite_state};
-    ghost use Rattle.csl_context.specs.Contents.{HasContents};
+    ghost use Rattle.csl_context.specs.Context.{HasContents, ContextView};
     ghost use Rattle.csl_context.specs.ContextState.{context_state_view};
-    ghost use Rattle.csl_context.specs.ContextView.{ContextView};
 
     ghost Value = { ContextView T };
 

@@ -1,9 +1,10 @@
 //! Calls that set inherited values: formatting, delimiter, options of names, period stripping.
+//! Definitions: specs/Context.antt.
 
 ghost use Rattle.std.specs.Prelude.{◌≡◌, ◌<◌, ◌||◌, length, false, true, option_map, IfOk, IfErr};
 ghost use Rattle.std.specs.Bool.{OnFalse};
-ghost use Rattle.csl_elements.specs.NameOptions.{partial_options};
-ghost use Rattle.csl_context.specs.ContextView.{Runs, with_format, without_format, with_delimiter, without_delimiter, with_options, without_options, with_stripping, in_format, with_inherited_format, with_inherited_delimiter};
+ghost use Rattle.csl_elements.specs.NamesOptions.{partial_options};
+ghost use Rattle.csl_context.specs.Context.{Runs, with_format, without_format, with_delimiter, without_delimiter, with_options, without_options, with_stripping, in_format, with_inherited_format, with_inherited_delimiter};
 
 use crate::context::Context;
 use crate::error::RenderError;

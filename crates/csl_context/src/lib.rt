@@ -1,7 +1,7 @@
 //! The context in which a cite is rendered: the open parts, the inherited values, and the state
 //! that nodes leave for the nodes after them.
 //!
-//! In contracts a context is one record (`specs/ContextView.antt`), and each call is one equation
+//! In contracts a context is one record (`specs/Context.antt`), and each call is one equation
 //! on it.
 //!
 //! A call that borrows a context mutably returns `Failed` if the context had failed, and changes

@@ -6,7 +6,7 @@ ghost use Rattle.csl_tree.specs.Content.{◌++>◌, affixed_content};
 ghost use Rattle.csl_tree.specs.Flat.{affix_content};
 ghost use Rattle.csl_context.specs.Texts.{text_in_if, between_in};
 ghost use Rattle.csl_context.specs.Quotes.{opening_quote, closing_quote, quote_text, leading_punctuation, after_leading_punctuation, moved_punctuation, moves_punctuation, affixed_after};
-ghost use Rattle.csl_context.specs.ContextView.{Runs, Gives, IsInnermost, with_part, close_part_by, with_quotes_toggled, with_quotes};
+ghost use Rattle.csl_context.specs.Context.{Runs, Gives, IsInnermost, with_part, close_part_by, with_quotes_toggled, with_quotes};
 
 use crate::context::Context;
 use crate::error::RenderError;
@@ -251,7 +251,7 @@ impl<'s, T> Context<'s, T> {
 
     /// Closes the inside of quotes, and writes its content in quotes, unless it is empty. The
     /// current parity chooses the quotes, so `turn` comes first.
-    #[tactic(auto, unfolding(crate::specs::ContextView::with_quotes))]
+    #[tactic(auto, unfolding(crate::specs::Context::with_quotes))]
     pub(crate) fn close_quotes(&mut self, suffix: Option<&str>) -> Result<(), RenderError>
         requires live { self.old.failed ≡ false }
         requires is_open { 0 < length self.old.outer }

@@ -1,10 +1,11 @@
 //! Lookups in the style and the citation of a context (CSL 1.0.2, Terms, Ordinals, Localized Date
 //! Formats; Choose: disambiguate).
+//! Definitions: specs/RenderInput.antt.
 
 ghost use Rattle.std.specs.Prelude.{◌≡◌, map, option_map};
-ghost use Rattle.csl_elements.specs.Date.{date_in_form};
+ghost use Rattle.csl_elements.specs.Lookup.{date_in_form};
 ghost use Rattle.csl_elements.specs.Locale.{ordinals_of};
-ghost use Rattle.csl_elements.specs.Ordinal.{ordinals, long_ordinals};
+ghost use Rattle.csl_elements.specs.Ordinals.{ordinals, long_ordinals};
 ghost use Rattle.csl_context.specs.RenderInput.{term_in, gender_in, should_disambiguate};
 
 use crate::context::Context;

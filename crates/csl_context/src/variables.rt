@@ -1,4 +1,5 @@
 //! Lookups of variables, for printing or silent (CSL 1.0.2, Appendix IV: Variables).
+//! Definitions: specs/RenderInput.antt, specs/Context.antt.
 
 ghost use Rattle.std.specs.Prelude.{◌≡◌, map, option_map};
 ghost use Rattle.lit_model.specs.Date.{date_view};
@@ -10,7 +11,7 @@ ghost use Rattle.csl_elements.specs.declared.taxonomy.Variable.{Variable};
 ghost use Rattle.csl_entry.specs.Answers.{cow_view};
 ghost use Rattle.csl_entry.specs.NumberResult.{result_view};
 ghost use Rattle.csl_context.specs.RenderInput.{peek_number, peek_page, peek_standard, peek_names, peek_date};
-ghost use Rattle.csl_context.specs.ContextView.{Looks, GivesBy, Runs, render_input, after_resolve};
+ghost use Rattle.csl_context.specs.Context.{Looks, GivesBy, Runs, render_input, after_resolve};
 
 use crate::context::Context;
 use crate::error::RenderError;

@@ -1,4 +1,5 @@
 //! Opening, filling and closing of the parts of a context.
+//! Definitions: specs/Context.antt, specs/Texts.antt.
 
 ghost use Rattle.std.specs.Prelude.{◌≡◌, ◌+◌, ◌<◌, not, [], length, false, true, IfOk, OnOk, IfErr, OnErr, IsOk};
 ghost use Rattle.lit_model.specs.Text.{chunk_of, chunks};
@@ -7,7 +8,7 @@ ghost use Rattle.csl_tree.specs.Flat.{close_part};
 ghost use Rattle.csl_tree.specs.Tokens.{optional_meta, has_text, has_children, is_empty};
 ghost use Rattle.csl_context.specs.State.{with_node_formatting};
 ghost use Rattle.csl_context.specs.Texts.{text_in, wanted_space, chunk_in, chunks_in, link_in, transparent_in};
-ghost use Rattle.csl_context.specs.ContextView.{Runs, IsSilent, IsInnermost, same_context, with_content, with_space, with_space_in, with_part, close_part_by, no_content};
+ghost use Rattle.csl_context.specs.Context.{Runs, IsSilent, IsInnermost, same_context, with_content, with_space, with_space_in, with_part, close_part_by, no_content};
 
 use crate::context::Context;
 use crate::error::RenderError;

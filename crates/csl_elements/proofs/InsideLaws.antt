@@ -20,7 +20,7 @@ use Rattle.csl_elements.specs.declared.element.LayoutRenderingElement.TheOpen as
 use Rattle.csl_elements.specs.declared.element.LayoutRenderingElement.TheOpen.{LayoutRenderingElement-F, NamesChild-F}
 use Rattle.csl_elements.specs.declared.element.LayoutRenderingElement.TheFolds.{fold-roll-LayoutRenderingElement, fold-roll-NamesChild, fold_out-Group, fold_out-Choose, fold_out-Names, fold_out-ChooseBranch, fold_out-Substitute, fold_out-NamesChild, fold_out-LayoutRenderingElement}
 use Rattle.csl_elements.specs.declared.element.LayoutRenderingElement.TheViews.{size_is-Group, size_is-Choose, size_is-ChooseBranch, size_is-Names, size_is-Substitute, sized-Group, sized-Choose, sized-Names, sized-Substitute}
-use Rattle.csl_elements.specs.Inside.{element_step, child_step, choose_step, branch_step, group_step, names_step, substitute_step, node_count, node_counts, choose_count, branch_count, branch_counts, child_count, child_counts, node_depth, node_depths, branch_depth, branch_depths, child_depth, child_depths}
+use Rattle.csl_elements.specs.Element.{element_step, child_step, choose_step, branch_step, group_step, names_step, substitute_step, node_count, node_counts, choose_count, branch_count, branch_counts, child_count, child_counts, node_depth, node_depths, branch_depth, branch_depths, child_depth, child_depths}
 
 -- the nodes of an `else`, if there is one
 abbrev pub others : Option (Vec LayoutRenderingElement Global) → List LayoutRenderingElement

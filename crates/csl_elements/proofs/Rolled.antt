@@ -25,7 +25,7 @@ use Rattle.csl_elements.specs.declared.element.LayoutRenderingElement.TheVariant
 use Rattle.csl_elements.specs.declared.element.LayoutRenderingElement.TheOpen as level
 use Rattle.csl_elements.specs.declared.element.LayoutRenderingElement.TheFolds.{fold-roll-LayoutRenderingElement, fold_out-Group, fold_out-Choose, fold_out-Names, fold-roll-Choose, fold-roll-ChooseBranch}
 use Rattle.csl_elements.specs.Dressing.{text_if, dressing_of}
-use Rattle.csl_elements.specs.NameOptions.{partial_options}
+use Rattle.csl_elements.specs.NamesOptions.{partial_options}
 use Rattle.csl_elements.specs.NamesParts.{names_node, names_substitutes}
 use Rattle.csl_elements.specs.Node.{Node, Nodes, choose, group, names}
 use Rattle.csl_elements.specs.View.{NamesChildView, BranchView, branches_of, first_et_al, first_label, name_children, substitutes, view_node, view_branch, view_child, view_choose, view_group, view_names, view_nodes, element_step, child_step, choose_step, branch_step, group_step, names_step, substitute_step}

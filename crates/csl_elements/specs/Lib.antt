@@ -1,22 +1,21 @@
 -- The definitions that the contracts of `csl_elements` cite: nodes, options, terms and locales as
 -- plain data.
-pub mod Date
+pub mod Lookup
 pub mod Formatting
 pub mod Dressing
 pub mod Locale
-pub mod NameOptions
+pub mod NamesOptions
 pub mod Names
 pub mod Node
 pub mod View
-pub mod Inside
+pub mod Element
 pub mod Constructors
-pub mod Ordinal
+pub mod Ordinals
 pub mod Taxonomy
 pub mod VariableNames
 pub mod LocatorNames
 pub mod TermNames
 pub mod Term
-pub mod OfCitation
 pub mod NamesParts
 pub mod NamedSet
 pub mod VariableSet

@@ -13,7 +13,7 @@ use Rattle.csl_elements.specs.declared.names.NamePartName.{NamePartName}
 use Rattle.csl_elements.specs.declared.names.NamePart.{NamePart}
 use Rattle.csl_elements.specs.declared.names.Name.{Name}
 use Rattle.csl_elements.specs.declared.names.EtAl.{EtAl}
-use Rattle.csl_elements.specs.NameOptions.{PartialOptions, partial_options, apply_options}
+use Rattle.csl_elements.specs.NamesOptions.{PartialOptions, partial_options, apply_options}
 use Rattle.csl_elements.specs.Dressing.{AffixTexts, affix_texts, Dressing, dressing_over}
 
 pub record NamePartNode : Type 0 where

@@ -16,7 +16,7 @@ use Rattle.csl_elements.specs.declared.names_parts.PlacedLabel.{PlacedLabel}
 use Rattle.csl_elements.specs.declared.term.OtherTerm.TheVariants.{EtAl}
 use Rattle.csl_elements.specs.declared.formatting.Formatting.{Formatting}
 use Rattle.csl_elements.specs.Dressing.{dressing_of, text_if}
-use Rattle.csl_elements.specs.NameOptions.{partial_options, inherited_options, no_options}
+use Rattle.csl_elements.specs.NamesOptions.{partial_options, inherited_options, no_options}
 use Rattle.csl_elements.specs.Names.{NamePartNode, NameNode, EtAlNode, view_label, NamesLabel, NamesNode}
 use Rattle.csl_elements.specs.Node.{Nodes, Substitutes, no_substitutes, substitute}
 use Rattle.csl_elements.specs.View.{NamesChildView, view_child, name_children, first_et_al, first_label, substitutes}

@@ -1,7 +1,9 @@
 -- A variable is a standard, number, page, date or name variable (CSL 1.0.2, Appendix IV). A
 -- `cs:number` may have a number variable or a page variable. Each kind of entry has one name, such
--- as `article-journal` (Appendix III, Types); a text is the name of one kind or of none.
-use Rattle.std.specs.Prelude.{ℕ, List, codes}
+-- as `article-journal` (Appendix III, Types); a text is the name of one kind or of none. The
+-- citation, and not the entry, answers four variables (`is_of_citation`): the citation number, the
+-- number of the first note, the locator and the year suffix.
+use Rattle.std.specs.Prelude.{ℕ, List, codes, Bool, true, false}
 use Rattle.csl_elements.specs.declared.taxonomy.Kind.{Kind}
 use Rattle.csl_elements.specs.declared.taxonomy.Kind.TheVariants as kinds
 use Rattle.csl_elements.specs.declared.taxonomy.Variable.{Variable}
@@ -10,6 +12,8 @@ use Rattle.csl_elements.specs.declared.taxonomy.NumberOrPageVariable.{NumberOrPa
 use Rattle.csl_elements.specs.declared.taxonomy.NumberOrPageVariable.TheVariants as either
 use Rattle.csl_elements.specs.declared.term.Term.{Term}
 use Rattle.csl_elements.specs.declared.term.Term.TheVariants as terms
+use Rattle.csl_elements.specs.declared.taxonomy.NumberVariable.TheVariants.{CitationNumber, FirstReferenceNoteNumber, Locator}
+use Rattle.csl_elements.specs.declared.taxonomy.StandardVariable.TheVariants.{YearSuffix}
 
 -- a number variable or a page variable as one of the five types
 abbrev pub variable_of : NumberOrPageVariable → Variable
@@ -68,3 +72,11 @@ name_of kinds.Standard = codes "standard"
 name_of kinds.Thesis = codes "thesis"
 name_of kinds.Treaty = codes "treaty"
 name_of kinds.Webpage = codes "webpage"
+
+-- the citation number, the number of the first note, the locator and the year suffix
+abbrev pub is_of_citation : Variable → Bool
+is_of_citation (variables.Number CitationNumber) = true
+is_of_citation (variables.Number FirstReferenceNoteNumber) = true
+is_of_citation (variables.Number Locator) = true
+is_of_citation (variables.Standard YearSuffix) = true
+is_of_citation other = false

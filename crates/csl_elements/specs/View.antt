@@ -3,7 +3,7 @@
 use Rattle.std.specs.Prelude.{ℕ, Bool, true, false, List, [], ◌∷◌, map, length, Option, Some, None, option_map, Vec, string_bytes}
 use Rattle.std.specs.declared.alloc.Global.{Global}
 use Rattle.csl_elements.specs.Dressing.{affix_texts, dressing_of, TextDressing, text_if}
-use Rattle.csl_elements.specs.NameOptions.{partial_options}
+use Rattle.csl_elements.specs.NamesOptions.{partial_options}
 use Rattle.csl_elements.specs.Names.{NameNode, view_name, EtAlNode, view_et_al, LabelNode, view_label, NamesLabel}
 use Rattle.csl_elements.specs.Node.{of_variable, of_term, of_value, NumberNode, DatePartNode, DateNode, Tests, Node, text, call, number, label, date, names, choose, group, Nodes, no_nodes, node, Branches, no_branches, otherwise, branch, Substitutes, no_substitutes, substitute, LayoutNode}
 use Rattle.csl_elements.specs.declared.text.Text.{Text}

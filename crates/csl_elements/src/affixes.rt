@@ -1,4 +1,5 @@
 //! Affixes (CSL 1.0.2, Affixes).
+//! Definitions: specs/Constructors.antt, specs/Dressing.antt.
 
 ghost use Rattle.std.specs.Prelude.{◌≡◌, IfOk};
 ghost use Rattle.csl_elements.specs.Dressing.{affix_texts};

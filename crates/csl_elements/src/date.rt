@@ -1,4 +1,5 @@
 //! Dates (CSL 1.0.2, Date).
+//! Definitions: specs/Constructors.antt.
 
 ghost use Rattle.std.specs.Prelude.{◌≡◌};
 ghost use Rattle.csl_elements.specs.Constructors.{date_of, date_of_parts, date_part_of, localized_date_of};

@@ -5,7 +5,7 @@ ghost use Rattle.std.specs.Prelude.{◌≡◌, ◌+◌, ◌<◌, ◌++◌, IfSom
 ghost use Rattle.std.specs.Iterator.{AlwaysYields};
 ghost use Rattle.std.specs.Iterator.Adapters.{chain_steps, once_steps};
 ghost use Rattle.std.specs.Slice.Iter.{iter_steps};
-ghost use Rattle.csl_elements.specs.Inside.{inside_count, inside_depth, node_count, node_counts, node_depth, node_depths, branch_count, branch_counts, branch_depth, branch_depths, child_count, child_counts, child_depth, child_depths};
+ghost use Rattle.csl_elements.specs.Element.{inside_count, inside_depth, node_count, node_counts, node_depth, node_depths, branch_count, branch_counts, branch_depth, branch_depths, child_count, child_counts, child_depth, child_depths};
 
 use crate::affixes::Affixes;
 use crate::date::Date;

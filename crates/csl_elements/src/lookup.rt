@@ -3,7 +3,7 @@
 
 ghost use Rattle.std.specs.Prelude.{◌≡◌, find, option_copied};
 ghost use Rattle.csl_elements.specs.Term.{forms_for};
-ghost use Rattle.csl_elements.specs.Date.{is_in_form, date_in_form};
+ghost use Rattle.csl_elements.specs.Lookup.{is_in_form, date_in_form};
 
 use crate::date::{Date, DateForm};
 use crate::locale::Locale;

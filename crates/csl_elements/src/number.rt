@@ -1,4 +1,5 @@
 //! Numbers and the labels beside them (CSL 1.0.2, Number and Label).
+//! Definitions: specs/Constructors.antt.
 
 ghost use Rattle.std.specs.Prelude.{◌≡◌};
 ghost use Rattle.csl_elements.specs.Constructors.{label_of, number_of, short_label_of};

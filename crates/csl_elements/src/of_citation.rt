@@ -1,7 +1,8 @@
 //! The variables that the citation answers, and not the entry (CSL 1.0.2, Appendix IV: Variables).
+//! Definitions: specs/Taxonomy.antt.
 
 ghost use Rattle.std.specs.Prelude.{◌≡◌};
-ghost use Rattle.csl_elements.specs.OfCitation.{is_of_citation};
+ghost use Rattle.csl_elements.specs.Taxonomy.{is_of_citation};
 
 use crate::taxonomy::{NumberVariable, StandardVariable, Variable};
 

@@ -1,4 +1,5 @@
 //! The terms that a locale may translate (CSL 1.0.2, Terms).
+//! Definitions: specs/Taxonomy.antt.
 
 ghost use Rattle.std.specs.Prelude.{◌≡◌};
 ghost use Rattle.csl_elements.specs.Taxonomy.{term_of};

@@ -1,4 +1,5 @@
 //! Text nodes (CSL 1.0.2, Text).
+//! Definitions: specs/Constructors.antt, specs/View.antt.
 
 ghost use Rattle.std.specs.Prelude.{◌≡◌, IfOk};
 ghost use Rattle.csl_elements.specs.Constructors.{text_of_target, text_of_term, text_of_variable};

@@ -11,6 +11,7 @@
 --   they were parsed.
 -- - Section, supplement number: none. Citation number, first reference note number, locator: none,
 --   because the citation has them.
+-- - Page: the own pages, or their text if they were not parsed (`pages_of`).
 use Rattle.std.specs.Prelude.{ℕ, List, Option, None, codes, option_map, option_and_then, if◌then◌else◌}
 use Rattle.std.specs.Option.{option_or}
 use Rattle.csl_elements.specs.declared.taxonomy.NumberVariable.{NumberVariable}
@@ -25,10 +26,12 @@ use Rattle.lit_model.specs.Entry.{preorder, own_serial}
 use Rattle.csl_common.specs.Lists.{first_some}
 use Rattle.lit_model.specs.MaybeTyped.{MaybeView, typed, maybe_view}
 use Rattle.lit_model.specs.Numeric.{NumericView, numeric_view}
-use Rattle.lit_model.specs.Page.{pages_view, first_page}
+use Rattle.lit_model.specs.Page.{pages_view, first_page, PartView}
 use Rattle.lit_model.specs.Select.{same_type, bound_select, chapter, part, container_of, collection_of}
 use Rattle.lit_model.specs.Source.{serial}
-use Rattle.csl_entry.specs.NumericText.{numeric_or_text}
+use Rattle.csl_elements.specs.declared.taxonomy.PageVariable.{PageVariable}
+use Rattle.csl_elements.specs.declared.taxonomy.PageVariable.TheVariants.{Page}
+use Rattle.csl_entry.specs.Answers.{numeric_or_text}
 
 -- a number that a work holds, or its text
 abbrev pub number_answer : Option (MaybeTyped Numeric) → Option (MaybeView NumericView)
@@ -99,3 +102,7 @@ number_of e Section = None
 number_of e SupplementNumber = None
 number_of e Version = serial_answer (version_number e)
 number_of e Volume = number_answer (volume_number e)
+
+-- the own pages of the work
+abbrev pub pages_of : Entry → PageVariable → Option (MaybeView (List PartView))
+pages_of e Page = option_map (maybe_view pages_view) (out-Entry e).page_range

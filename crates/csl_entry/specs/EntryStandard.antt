@@ -30,7 +30,7 @@ use Rattle.csl_common.specs.Lists.{first_some}
 use Rattle.lit_model.specs.Select.{ClauseView, parent_of, bound_select, container_of, collection_of, original, event, volume_title}
 use Rattle.lit_model.specs.Source.{address_text, language_of}
 use Rattle.lit_model.specs.Text.{Chunk, chunks, select}
-use Rattle.csl_entry.specs.Chunk.{one_chunk}
+use Rattle.csl_entry.specs.Answers.{one_chunk}
 use Rattle.csl_entry.specs.CitationLabel.{label}
 use Rattle.csl_entry.specs.Language.{language_text}
 

@@ -22,7 +22,7 @@ use Rattle.csl_elements.specs.declared.taxonomy.StandardVariable.TheVariants.{Ye
 use Rattle.csl_elements.specs.declared.taxonomy.NameVariable.{NameVariable}
 use Rattle.csl_elements.specs.declared.taxonomy.DateVariable.{DateVariable}
 use Rattle.csl_elements.specs.declared.taxonomy.Variable.TheVariants as variable
-use Rattle.csl_elements.specs.OfCitation.{is_of_citation}
+use Rattle.csl_elements.specs.Taxonomy.{is_of_citation}
 use Rattle.lit_model.specs.declared.text.ChunkKind.TheVariants.{Normal}
 use Rattle.csl_common.specs.declared.form.LongShortForm.{LongShortForm}
 use Rattle.lit_model.specs.Date.{DateView}
@@ -34,12 +34,10 @@ use Rattle.lit_model.specs.Text.{Chunk}
 use Rattle.csl_entry.specs.declared.citation.cite.Sorting.{Sorting}
 use Rattle.csl_entry.specs.declared.citation.cite.SpecialForm.{SpecialForm}
 use Rattle.csl_entry.specs.declared.citation.instance.InstanceContext.{InstanceContext}
-use Rattle.csl_entry.specs.Answers.{Answers}
-use Rattle.csl_entry.specs.Chunk.{one_chunk}
+use Rattle.csl_entry.specs.Answers.{Answers, one_chunk, numeric_or_text}
 use Rattle.csl_entry.specs.Cite.{CiteState, cite_state, Payload, payload_text, payload_transparent, Disambiguation, no_disambiguation, by_names, by_choose, by_year_suffix}
 use Rattle.csl_entry.specs.Letters.{letters}
 use Rattle.csl_entry.specs.NumberResult.{ResultView, regular, transparent, NumberOrPageView, number, page}
-use Rattle.csl_entry.specs.NumericText.{numeric_or_text}
 
 -- a cite with its entry, as plain data
 pub record Instance : Type 0 where

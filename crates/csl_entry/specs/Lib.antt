@@ -1,16 +1,14 @@
 -- The definitions that the contracts of `csl_entry` cite: what an entry and a cite return for each
 -- variable.
 pub mod Answers
-pub mod Chunk
 pub mod CitationLabel
 pub mod Cite
 pub mod Creators
-pub mod EntryAnswers
+pub mod Entry
 pub mod EntryDate
 pub mod EntryKind
 pub mod EntryName
 pub mod EntryNumber
-pub mod EntryPage
 pub mod EntryStandard
 pub mod Instance
 pub mod Language
@@ -20,6 +18,5 @@ pub mod NameForm
 pub mod NameProperties
 pub mod NumberResult
 pub mod Numbers
-pub mod NumericText
 pub mod Alike
 pub mod Snapshot

@@ -1,6 +1,6 @@
 //! The answers of an `Entry` (CSL 1.0.2, Appendix III: Types; Appendix IV: Variables).
 
-ghost use Rattle.csl_entry.specs.EntryAnswers.{answers_of, key_of};
+ghost use Rattle.csl_entry.specs.Entry.{answers_of, key_of};
 ghost use Rattle.csl_entry.specs.Language.{english_of};
 
 pub(crate) mod chunk;

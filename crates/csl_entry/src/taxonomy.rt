@@ -1,5 +1,6 @@
 //! The trait for entries: their answers to a style (CSL 1.0.2, Appendix III: Types; Appendix IV:
 //! Variables).
+//! Definitions: specs/Answers.antt.
 
 use csl_elements::{
     DateVariable, Kind, NameVariable, NumberVariable, PageVariable, StandardVariable,

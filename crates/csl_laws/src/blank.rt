@@ -1,4 +1,5 @@
 //! An entry type whose answers are all empty.
+//! Definitions: crates/lit_model/specs/Text.antt, crates/lit_model/specs/Person.antt.
 
 ghost use Rattle.std.specs.Prelude.{◌≡◌, [], IfOk};
 ghost use Rattle.lit_model.specs.Person.{person_view};

@@ -1,4 +1,5 @@
 //! Equality and hash of metas.
+//! Definitions: crates/csl_tree/specs/Tokens.antt.
 
 ghost use Rattle.std.specs.Prelude.{◌≡◌, ◌↔◌, IsTrue};
 ghost use Rattle.csl_tree.specs.Tokens.{meta_of};

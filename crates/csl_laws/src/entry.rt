@@ -1,4 +1,5 @@
 //! Equality of entries.
+//! Definitions: crates/lit_model/specs/Work.antt.
 
 ghost use Rattle.std.specs.Prelude.{◌≡◌, ◌↔◌, IsTrue};
 ghost use Rattle.lit_model.specs.Work.{spelled_works, works};

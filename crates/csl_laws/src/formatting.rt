@@ -1,4 +1,5 @@
 //! Equality and hash of texts and formattings.
+//! Definitions: crates/csl_tree/specs/Tokens.antt.
 
 ghost use Rattle.std.specs.Prelude.{◌≡◌, ◌↔◌, IsTrue};
 ghost use Rattle.csl_tree.specs.Tokens.{text_tokens};

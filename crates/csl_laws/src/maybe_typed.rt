@@ -1,4 +1,5 @@
 //! Equality of values that are a number or pages, or else a text.
+//! Definitions: crates/lit_model/specs/MaybeTyped.antt.
 
 ghost use Rattle.std.specs.Prelude.{◌≡◌, ◌↔◌, IsTrue};
 ghost use Rattle.lit_model.specs.MaybeTyped.{maybe_view};

@@ -1,4 +1,5 @@
 //! The order of the forms of a name.
+//! Definitions: crates/csl_entry/specs/NameForm.antt.
 
 ghost use Rattle.std.specs.Prelude.{◌≡◌, ◌↔◌, ◌<◌, IsTrue};
 ghost use Rattle.csl_entry.specs.NameForm.{form_place, form_cmp};

@@ -1,4 +1,5 @@
 //! The name forms of a citation: equality, hash, and a form that a caller replaces.
+//! Definitions: crates/csl_entry/specs/NameProperties.antt.
 
 ghost use Rattle.std.specs.Prelude.{◌≡◌, ◌↔◌, IsTrue};
 ghost use Rattle.csl_entry.specs.NameProperties.{name_properties, with_form};

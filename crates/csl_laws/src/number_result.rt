@@ -1,4 +1,5 @@
 //! Equality of the answers to number variables.
+//! Definitions: crates/csl_entry/specs/NumberResult.antt.
 
 ghost use Rattle.std.specs.Prelude.{◌≡◌, ◌↔◌, IsTrue};
 ghost use Rattle.csl_entry.specs.NumberResult.{result_view, number_or_page_view};

@@ -1,4 +1,5 @@
 //! Equality and hash of numbers.
+//! Definitions: crates/lit_model/specs/Numeric.antt.
 
 ghost use Rattle.std.specs.Prelude.{◌≡◌, ◌↔◌, IsTrue};
 ghost use Rattle.lit_model.specs.Numeric.{numeric_view, value_view};

@@ -1,4 +1,5 @@
 //! Equality and hash of pages.
+//! Definitions: crates/lit_model/specs/Page.antt.
 
 ghost use Rattle.std.specs.Prelude.{◌≡◌, ◌↔◌, IsTrue};
 ghost use Rattle.lit_model.specs.Page.{part_view, pages_view};

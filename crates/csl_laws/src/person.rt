@@ -1,4 +1,5 @@
 //! Equality and hash of persons, and equality of their roles.
+//! Definitions: crates/lit_model/specs/Person.antt.
 
 ghost use Rattle.std.specs.Prelude.{◌≡◌, ◌↔◌, IsTrue};
 ghost use Rattle.lit_model.specs.Person.{person_view, role_of, role_group};

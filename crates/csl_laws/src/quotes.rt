@@ -6,7 +6,7 @@ use csl_context::{Context, RenderError};
 use csl_elements::Affixes;
 
 /// Writes the text in quotes, between affixes. The parts around it stay open.
-#[tactic(auto, unfolding(csl_context::specs::ContextView::with_quotes))]
+#[tactic(auto, unfolding(csl_context::specs::Context::with_quotes))]
 pub fn push_quoted<T>(
     ctx: &mut Context<'_, T>,
     affixes: &Affixes,

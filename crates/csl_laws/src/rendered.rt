@@ -1,8 +1,9 @@
 //! Equality of states and of renderings.
+//! Definitions: crates/csl_context/specs/State.antt, crates/csl_tree/specs/Tokens.antt.
 
 ghost use Rattle.std.specs.Prelude.{◌≡◌, ◌↔◌, IsTrue};
 ghost use Rattle.csl_tree.specs.Tokens.{tokens};
-ghost use Rattle.csl_context.specs.LeftState.{left_state_view};
+ghost use Rattle.csl_context.specs.State.{left_state_view};
 
 use csl_context::{LeftState, Rendered};
 

@@ -1,4 +1,5 @@
 //! Equality of publishers, addresses, serial numbers and languages.
+//! Definitions: crates/lit_model/specs/Source.antt.
 
 ghost use Rattle.std.specs.Prelude.{◌≡◌, ◌↔◌, IsTrue, option_map};
 ghost use Rattle.lit_model.specs.Source.{press_of, address_of, serials, language_of};

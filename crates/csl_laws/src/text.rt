@@ -1,4 +1,5 @@
 //! Equality of texts, their chunks and their forms.
+//! Definitions: crates/lit_model/specs/Text.antt.
 
 ghost use Rattle.std.specs.Prelude.{◌≡◌, ◌↔◌, IsTrue};
 ghost use Rattle.lit_model.specs.Text.{chunk_of, chunks, format_string_view};

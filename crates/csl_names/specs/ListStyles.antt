@@ -10,15 +10,15 @@ use Rattle.csl_elements.specs.declared.taxonomy.NameVariable.{NameVariable}
 use Rattle.csl_elements.specs.declared.term.Term.TheVariants.{Other}
 use Rattle.csl_elements.specs.declared.term.OtherTerm.TheVariants.{And}
 use Rattle.csl_elements.specs.declared.term.TermForm.TheVariants.{Long}
-use Rattle.csl_elements.specs.NameOptions.{CompleteOptions}
+use Rattle.csl_elements.specs.NamesOptions.{CompleteOptions}
 use Rattle.csl_elements.specs.Names.{NameNode, EtAlNode}
 use Rattle.csl_style.specs.Style.{StyleParts}
 use Rattle.csl_entry.specs.NameProperties.{NameForms}
-use Rattle.csl_context.specs.ContextView.{ContextView}
+use Rattle.csl_context.specs.Context.{ContextView}
 use Rattle.csl_context.specs.RenderInput.{term_in}
 use Rattle.csl_names.specs.declared.list.ListStyle.{ListStyle}
-use Rattle.csl_names.specs.OneName.{name_style_view}
-use Rattle.csl_names.specs.NameList.{ListStyleView, with_names}
+use Rattle.csl_names.specs.Name.{name_style_view}
+use Rattle.csl_names.specs.List.{ListStyleView, with_names}
 use Rattle.csl_names.specs.NameStyles.{name_style}
 
 -- the word before the last name, if there is an `and`: an ampersand, or the term, or an empty text

@@ -11,11 +11,11 @@ use Rattle.csl_style.specs.declared.style.settings.DemoteNonDroppingParticle.{De
 use Rattle.csl_style.specs.declared.style.settings.DemoteNonDroppingParticle.TheVariants.{DisplayAndSort, SortOnly, Never}
 use Rattle.csl_style.specs.declared.style.settings.StyleSettings.{StyleSettings}
 use Rattle.csl_elements.specs.Names.{NameNode, NamePartNode}
-use Rattle.csl_elements.specs.NameOptions.{CompleteOptions}
+use Rattle.csl_elements.specs.NamesOptions.{CompleteOptions}
 use Rattle.csl_elements.specs.NamesParts.{no_formatting, first_part}
 use Rattle.csl_entry.specs.declared.forms.name_form.DisambiguatedNameForm.{DisambiguatedNameForm}
-use Rattle.csl_context.specs.ContextView.{ContextView, with_content}
-use Rattle.csl_names.specs.OneName.{PartStyleView, NameStyleView, name_content}
+use Rattle.csl_context.specs.Context.{ContextView, with_content}
+use Rattle.csl_names.specs.Name.{PartStyleView, NameStyleView, name_content}
 
 -- a part as the Name sets it, or one that sets nothing
 abbrev pub part_style_of : Option NamePartNode → PartStyleView

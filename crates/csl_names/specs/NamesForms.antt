@@ -16,7 +16,7 @@ use Rattle.std.specs.List.{list_all, range_with_len}
 use Rattle.std.specs.Option.{option_or}
 use Rattle.csl_elements.specs.declared.names.NameForm.{NameForm}
 use Rattle.csl_elements.specs.declared.names.NameForm.TheVariants.{Count, Short, Long}
-use Rattle.csl_elements.specs.NameOptions.{CompleteOptions, is_suppressed}
+use Rattle.csl_elements.specs.NamesOptions.{CompleteOptions, is_suppressed}
 use Rattle.csl_elements.specs.Names.{NameNode, NamesNode}
 use Rattle.csl_entry.specs.declared.forms.name_form.DisambiguatedNameForm.{DisambiguatedNameForm}
 use Rattle.csl_entry.specs.declared.forms.name_form.DisambiguatedNameForm.TheVariants as forms

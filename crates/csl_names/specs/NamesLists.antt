@@ -5,13 +5,18 @@
 -- merge if the variables are the editors and the translators alone, in either order, and the style
 -- has the long term `editortranslator` (`may_merge`). Then the editors come before the translators,
 -- and an empty list is dropped. Two lists of the same persons become one, with the variable
--- `editortranslator` (`merged_lists`).
-use Rattle.std.specs.Prelude.{Bool, true, false, ◌&&◌, ◌||◌, List, [], ◌∷◌, is_some, if◌then◌else◌}
+-- `editortranslator` (`merged_lists`). `list_of` and `lists_view` are the lists of the code as
+-- plain data.
+use Rattle.std.specs.Prelude.{Bool, true, false, ◌&&◌, ◌||◌, List, [], ◌∷◌, is_some, if◌then◌else◌, map}
 use Rattle.std.specs.List.{list_all}
 use Rattle.std.specs.Cmp.Lexicographic.{pointwise}
 use denote.Enum.Bare.{sameb}
-use Rattle.lit_model.specs.Person.{PersonView}
+use Rattle.std.specs.declared.alloc.Global.{Global}
+use Rattle.std.specs.declared.borrow.Cow.{Cow}
+use Rattle.std.specs.declared.vec.Vec.{Vec}
+use Rattle.lit_model.specs.Person.{PersonView, person_view}
 use Rattle.lit_model.specs.SamePerson.{same_people}
+use Rattle.lit_model.specs.declared.person.Person.{Person}
 use Rattle.csl_elements.specs.contracts.taxonomy.NameVariable.{the_type}
 use Rattle.csl_elements.specs.declared.taxonomy.NameVariable.{NameVariable}
 use Rattle.csl_elements.specs.declared.taxonomy.NameVariable.TheVariants.{Editor, Translator, EditorTranslator}
@@ -19,6 +24,7 @@ use Rattle.csl_elements.specs.declared.taxonomy.Variable.TheVariants as variable
 use Rattle.csl_elements.specs.declared.term.Term.TheVariants as terms
 use Rattle.csl_elements.specs.declared.term.TermForm.TheVariants.{Long}
 use Rattle.csl_style.specs.Style.{StyleParts}
+use Rattle.csl_entry.specs.Answers.{cow_view}
 use Rattle.csl_context.specs.State.{State, state_after_resolve}
 use Rattle.csl_context.specs.RenderInput.{RenderInput, peek_names, term_in}
 
@@ -82,3 +88,13 @@ module _ (w : RenderInput) where
   abbrev pub lists_state : State → List NameVariable → State
   lists_state s vs =
       if may_merge w.style vs then state_after_resolve (variable.Name Translator) (state_after_resolve (variable.Name Editor) s) else state_after_resolve_all s vs
+
+-- ---- the lists of the code
+
+-- the persons of a list, with their variable
+abbrev pub list_of : Vec (Cow Person) Global × NameVariable → List PersonView × NameVariable
+list_of l = (map (cow_view person_view) l.0.items, l.1)
+
+-- several such lists
+abbrev pub lists_view : Vec (Vec (Cow Person) Global × NameVariable) Global → List (List PersonView × NameVariable)
+lists_view lists = map list_of lists.items

@@ -9,7 +9,7 @@ use Rattle.csl_tree.specs.Tokens.{Token}
 use Rattle.csl_tree.specs.Content.{◌++>◌}
 use Rattle.csl_context.specs.State.{Inherited, with_node_formatting}
 use Rattle.csl_context.specs.Texts.{text_in, wanted_space}
-use Rattle.csl_context.specs.ContextView.{ContextView}
+use Rattle.csl_context.specs.Context.{ContextView}
 
 pub data Piece : Type 0 where
   -- a text, in a formatting over the inherited one

@@ -1,12 +1,13 @@
 //! The end of a list that leaves names out: `et al.`, or an ellipsis and the last name (CSL 1.0.2,
 //! Et-al; Name: delimiter-precedes-et-al, et-al-use-last).
+//! Definitions: specs/List.antt.
 
 ghost use Rattle.std.specs.Prelude.{◌≡◌, ◌-◌, map, length, slice_get};
 ghost use Rattle.std.specs.Cow.{cow_value};
 ghost use Rattle.lit_model.specs.Person.{person_view};
-ghost use Rattle.csl_context.specs.ContextView.{Runs};
+ghost use Rattle.csl_context.specs.Context.{Runs};
 ghost use Rattle.csl_names.specs.Piece.{with_pieces};
-ghost use Rattle.csl_names.specs.NameList.{is_all, et_al_pieces, last_form, kept_last, cut_end};
+ghost use Rattle.csl_names.specs.List.{is_all, et_al_pieces, last_form, kept_last, cut_end};
 ghost use Rattle.csl_names.specs.ListStyles.{list_style_view};
 
 use crate::join::delimiter_precedes;

@@ -1,11 +1,12 @@
 //! Given names, in full or shortened (CSL 1.0.2, Name: initialize-with).
+//! Definitions: specs/Name.antt.
 
 ghost use Rattle.std.specs.Prelude.{◌∷◌, [], string_bytes};
 ghost use Rattle.lit_model.specs.Initials.{initials};
 ghost use Rattle.lit_model.specs.Person.{person_view};
-ghost use Rattle.csl_context.specs.ContextView.{Runs, GivesBy};
+ghost use Rattle.csl_context.specs.Context.{Runs, GivesBy};
 ghost use Rattle.csl_names.specs.Piece.{word, with_pieces};
-ghost use Rattle.csl_names.specs.OneName.{name_style_view, given_or_empty, lettered_name, initialized_given, given_word, given_block};
+ghost use Rattle.csl_names.specs.Name.{name_style_view, given_or_empty, lettered_name, initialized_given, given_word, given_block};
 
 use crate::name::NameStyle;
 use crate::piece::{push_after_gap, push_optional, push_word};

@@ -1,10 +1,11 @@
 //! The separator before a name of a list (CSL 1.0.2, Name: and, delimiter,
 //! delimiter-precedes-last).
+//! Definitions: specs/List.antt.
 
 ghost use Rattle.std.specs.Prelude.{◌≡◌, ◌<◌, option_map};
-ghost use Rattle.csl_context.specs.ContextView.{Runs};
+ghost use Rattle.csl_context.specs.Context.{Runs};
 ghost use Rattle.csl_names.specs.Piece.{with_pieces};
-ghost use Rattle.csl_names.specs.NameList.{delimiter_precedes, last_name_separator, name_separator};
+ghost use Rattle.csl_names.specs.List.{delimiter_precedes, last_name_separator, name_separator};
 ghost use Rattle.csl_names.specs.ListStyles.{and_word, list_style_view};
 
 use crate::list::{ListStyle, is_reversed};

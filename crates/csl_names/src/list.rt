@@ -4,9 +4,9 @@
 ghost use Rattle.std.specs.Prelude.{◌≡◌, map};
 ghost use Rattle.std.specs.Cow.{cow_value};
 ghost use Rattle.lit_model.specs.Person.{person_view};
-ghost use Rattle.csl_context.specs.ContextView.{Runs};
+ghost use Rattle.csl_context.specs.Context.{Runs};
 ghost use Rattle.csl_names.specs.Piece.{with_pieces};
-ghost use Rattle.csl_names.specs.NameList.{form_at, first_absent, is_reversed, names_from, with_whole, with_names};
+ghost use Rattle.csl_names.specs.List.{form_at, first_absent, is_reversed, names_from, with_whole, with_names};
 ghost use Rattle.csl_names.specs.ListStyles.{list_style_view};
 
 use crate::name::NameStyle;

@@ -4,8 +4,8 @@ ghost use Rattle.std.specs.Prelude.{◌≡◌, map};
 ghost use Rattle.std.specs.Cow.{cow_value};
 ghost use Rattle.lit_model.specs.Person.{person_view};
 ghost use Rattle.csl_elements.specs.Names.{view_name, view_et_al};
-ghost use Rattle.csl_elements.specs.NameOptions.{complete_options};
-ghost use Rattle.csl_context.specs.ContextView.{Runs};
+ghost use Rattle.csl_elements.specs.NamesOptions.{complete_options};
+ghost use Rattle.csl_context.specs.Context.{Runs};
 ghost use Rattle.csl_names.specs.ListStyles.{list_style_view, list_style_in, with_name_list};
 
 use crate::list::ListStyle;

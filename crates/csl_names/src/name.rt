@@ -2,9 +2,9 @@
 
 ghost use Rattle.std.specs.Prelude.{◌≡◌, option_map};
 ghost use Rattle.lit_model.specs.Person.{person_view};
-ghost use Rattle.csl_context.specs.ContextView.{Runs};
+ghost use Rattle.csl_context.specs.Context.{Runs};
 ghost use Rattle.csl_names.specs.Piece.{with_pieces};
-ghost use Rattle.csl_names.specs.OneName.{name_style_view, leading_name, demoted_particle, given_after_family, family_first, suffix_after_name, given_first, cjk_name, institution, long_name, one_name};
+ghost use Rattle.csl_names.specs.Name.{name_style_view, leading_name, demoted_particle, given_after_family, family_first, suffix_after_name, given_first, cjk_name, institution, long_name, one_name};
 
 use crate::part::{PartStyle, push_separated};
 use crate::piece::{no_formatting, push_after_gap, push_gap, push_optional, push_word};

@@ -4,9 +4,9 @@
 ghost use Rattle.std.specs.Prelude.{◌≡◌};
 ghost use Rattle.lit_model.specs.Person.{person_view};
 ghost use Rattle.csl_elements.specs.Names.{view_name};
-ghost use Rattle.csl_elements.specs.NameOptions.{complete_options};
-ghost use Rattle.csl_context.specs.ContextView.{Runs};
-ghost use Rattle.csl_names.specs.OneName.{part_style_view, name_style_view};
+ghost use Rattle.csl_elements.specs.NamesOptions.{complete_options};
+ghost use Rattle.csl_context.specs.Context.{Runs};
+ghost use Rattle.csl_names.specs.Name.{part_style_view, name_style_view};
 ghost use Rattle.csl_names.specs.NameStyles.{part_in, demotes, name_style_in, with_one_name};
 
 use crate::name::NameStyle;

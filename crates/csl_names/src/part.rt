@@ -1,9 +1,10 @@
 //! The parts of a name (CSL 1.0.2, Name-part).
+//! Definitions: specs/Name.antt.
 
 ghost use Rattle.std.specs.Prelude.{option_map};
-ghost use Rattle.csl_context.specs.ContextView.{Runs};
+ghost use Rattle.csl_context.specs.Context.{Runs};
 ghost use Rattle.csl_names.specs.Piece.{with_pieces};
-ghost use Rattle.csl_names.specs.OneName.{part_style_view, part_text, separated_word};
+ghost use Rattle.csl_names.specs.Name.{part_style_view, part_text, separated_word};
 
 use crate::piece::{no_formatting, push_optional, push_word};
 use csl_context::{Context, RenderError};

@@ -8,7 +8,7 @@ use Rattle.std.specs.Fmt.{decimal}
 use Rattle.std.proofs.lemmas.Bool.Decides.{nat_tests}
 use Rattle.std.proofs.lemmas.Fmt.{decimal_digit, decimal_step}
 use Rattle.std.proofs.lemmas.List.{length-append, replicate-append-replicate}
-use Rattle.lit_model.specs.NumericText.{with_zeros}
+use Rattle.lit_model.specs.NumericWrite.{with_zeros}
 
 -- ---- lists side by side
 

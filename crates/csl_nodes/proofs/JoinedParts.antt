@@ -13,13 +13,13 @@ use Rattle.csl_tree.proofs.Joins.{join-none, join_assoc}
 use Rattle.csl_tree.specs.Content.{◌++>◌}
 use Rattle.csl_tree.specs.Tokens.{Token, has_children}
 use Rattle.csl_entry.specs.Answers.{Answers}
-use Rattle.csl_context.specs.ContextView.{ContextView, render_input, with_content}
+use Rattle.csl_context.specs.Context.{ContextView, render_input, with_content}
 use Rattle.csl_context.specs.State.{Inherited}
 use Rattle.csl_context.specs.Texts.{text_in_if, between_in}
 use Rattle.csl_nodes.specs.declared.date_parts.DateValue.{DateValue}
 use Rattle.csl_nodes.specs.declared.date_parts.LocalizedDate.{LocalizedDate}
 use Rattle.csl_nodes.specs.declared.date_parts.OwnParts.{OwnParts}
-use Rattle.csl_nodes.specs.Dates.{own_part, part_under, part_over, date_part_over, part_content, each_after_delimiter, joined_by, localized_node, own_parts, own_named, over_localized}
+use Rattle.csl_nodes.specs.Date.{own_part, part_under, part_over, date_part_over, part_content, each_after_delimiter, joined_by, localized_node, own_parts, own_named, over_localized}
 
 -- Without a localized date the parts are unchanged.
 as_they_are : (ps : List DatePartNode) → map (part_over []) ps ≡ ps

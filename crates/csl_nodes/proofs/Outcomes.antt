@@ -11,8 +11,8 @@ use Rattle.csl_elements.specs.Node.{Tests}
 use Rattle.csl_elements.specs.View.{view_branch}
 use Rattle.csl_context.specs.State.{State}
 use Rattle.csl_context.specs.RenderInput.{RenderInput}
-use Rattle.csl_nodes.specs.Conditions.{conditions_at, conditions, of_numbers, of_dates, of_locators, of_positions, of_kinds, has_outcome, satisfies, branch_matches}
-use Rattle.csl_nodes.specs.RemainingConditions.{tests_of}
+use Rattle.csl_nodes.specs.Condition.{conditions_at, conditions, of_numbers, of_dates, of_locators, of_positions, of_kinds, has_outcome, satisfies, branch_matches}
+use Rattle.csl_nodes.specs.BranchConditions.{tests_of}
 use Rattle.csl_nodes.specs.declared.branch_conditions.BranchConditionPos.TheVariants as arm
 use Rattle.csl_nodes.proofs.Readings.{tests_out}
 

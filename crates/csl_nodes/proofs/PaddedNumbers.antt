@@ -4,7 +4,7 @@ use Rattle.std.proofs.Common.{◌≡◌, ℕ, ℤ, pos, negsuc, suc, ◌-◌, tr
 use Rattle.std.specs.Fmt.{decimal, padded_integral, format_spec, styled_signed_decimal, char_count}
 use Rattle.std.specs.Int.{is_negative}
 use Rattle.std.proofs.lemmas.Bool.Decides.{nat_tests}
-use Rattle.lit_model.specs.NumericText.{with_zeros}
+use Rattle.lit_model.specs.NumericWrite.{with_zeros}
 use Rattle.csl_nodes.specs.DateKey.{nine_places}
 
 -- without a sign

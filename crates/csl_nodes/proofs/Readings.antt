@@ -6,8 +6,8 @@ use Rattle.csl_elements.specs.Node.{Node, Nodes, Tests}
 use Rattle.csl_elements.specs.View.{view_branch, NamesChildView, BranchView, element_step, child_step, choose_step, branch_step, group_step, names_step, substitute_step}
 use Rattle.csl_context.specs.State.{State}
 use Rattle.csl_context.specs.RenderInput.{RenderInput}
-use Rattle.csl_nodes.specs.Conditions.{conditions_at, conditions}
-use Rattle.csl_nodes.specs.RemainingConditions.{next_arm, arms_from, later_conditions, conditions_from, tests_of}
+use Rattle.csl_nodes.specs.Condition.{conditions_at, conditions}
+use Rattle.csl_nodes.specs.BranchConditions.{next_arm, arms_from, later_conditions, conditions_from, tests_of}
 use Rattle.csl_nodes.specs.declared.branch_conditions.BranchConditionPos.{BranchConditionPos}
 use Rattle.csl_nodes.specs.declared.branch_conditions.BranchConditionPos.TheVariants as arm
 

@@ -2,13 +2,12 @@
 use Rattle.std.proofs.Common.{◌≡◌, ◌↔◌, ℕ, Bool, true, false, List, Option, Some, None, IsTrue, refl, ap, ◌∙◌}
 use Rattle.std.specs.Prelude.{is_some, chars}
 use Rattle.lit_model.specs.Chunks.{chunks_text}
-use Rattle.lit_model.specs.Numeric.{NumericView}
-use Rattle.lit_model.specs.NumericReading.{numeric_from}
-use Rattle.lit_model.specs.Spelled.{IsSpelled}
+use Rattle.lit_model.specs.Numeric.{NumericView, IsSpelled}
+use Rattle.lit_model.specs.NumericParse.{numeric_from}
 use Rattle.lit_model.specs.Text.{Chunk}
 use Rattle.lit_model.proofs.Sound.{numeric_sound}
 use Rattle.lit_model.proofs.Complete.{numeric_complete}
-use Rattle.csl_nodes.specs.Conditions.{is_number}
+use Rattle.csl_nodes.specs.Condition.{is_number}
 
 read_by : (cs : List ℕ) (b : Bool) (o : Option NumericView) → numeric_from cs ≡ o → IsTrue b ↔ IsSpelled cs → b ≡ is_some o
 read_by cs true None e h = let s = h.0 refl in let read = numeric_complete s.value cs s.spelled in absurd cc

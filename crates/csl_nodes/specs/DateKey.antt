@@ -16,7 +16,7 @@ use denote.Enum.Bare.{sameb}
 use Rattle.lit_model.specs.Characters.{hyphen_char}
 use Rattle.lit_model.specs.declared.date.Date.{Date}
 use Rattle.lit_model.specs.Date.{DateView, date_view}
-use Rattle.lit_model.specs.NumericText.{with_zeros}
+use Rattle.lit_model.specs.NumericWrite.{with_zeros}
 use Rattle.csl_elements.specs.contracts.date.DatePartName.{the_type}
 use Rattle.csl_elements.specs.declared.date.DateForm.{DateForm}
 use Rattle.csl_elements.specs.declared.date.DatePartName.{DatePartName}

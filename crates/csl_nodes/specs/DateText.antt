@@ -16,7 +16,7 @@ use Rattle.std.specs.Prelude.{ℕ, ◌+◌, ◌%◌, suc, zero, Bool, true, fals
 use Rattle.csl_common.specs.declared.season.Season.{Season}
 use Rattle.csl_common.specs.declared.ordinal.GrammarGender.{GrammarGender}
 use Rattle.lit_model.specs.Date.{DateView}
-use Rattle.lit_model.specs.NumericText.{with_zeros}
+use Rattle.lit_model.specs.NumericWrite.{with_zeros}
 use Rattle.csl_elements.specs.declared.date.DateAnyForm.{DateAnyForm}
 use Rattle.csl_elements.specs.declared.date.DateAnyForm.TheVariants.{Numeric, NumericLeadingZeros, Ordinal, Long, Short}
 use Rattle.csl_elements.specs.declared.date.DatePartName.{DatePartName}
@@ -29,7 +29,7 @@ use Rattle.csl_elements.specs.declared.term.Term.TheVariants as term
 use Rattle.csl_elements.specs.declared.term.TermForm.{TermForm}
 use Rattle.csl_elements.specs.declared.term.TermForm.TheVariants as term_form
 use Rattle.csl_elements.specs.Locale.{ordinals_of}
-use Rattle.csl_elements.specs.Ordinal.{ordinals}
+use Rattle.csl_elements.specs.Ordinals.{ordinals}
 use Rattle.csl_style.specs.Scopes.{are_day_ordinals_limited}
 use Rattle.csl_style.specs.Style.{StyleParts}
 use Rattle.csl_context.specs.RenderInput.{term_in, gender_in}

@@ -5,12 +5,11 @@ pub mod Usage
 pub mod Pages
 pub mod NumberOrPage
 pub mod Text
-pub mod Resolved
 pub mod Boxes
-pub mod Numbers
+pub mod Number
 pub mod DateText
 pub mod DateKey
-pub mod Labels
-pub mod Dates
-pub mod Conditions
-pub mod RemainingConditions
+pub mod Label
+pub mod Date
+pub mod Condition
+pub mod BranchConditions

@@ -9,7 +9,7 @@ use Rattle.std.specs.Prelude.{ℕ, ◌-◌, min, Bool, false, not, ◌&&◌, ◌
 use Rattle.std.specs.Char.{is_ascii_digit}
 use Rattle.std.specs.List.{list_all, flat_map, common_prefix_len}
 use Rattle.lit_model.specs.Characters.{hyphen_char, en_dash_char}
-use Rattle.lit_model.specs.NumericText.{numeric_text}
+use Rattle.lit_model.specs.NumericWrite.{numeric_text}
 use Rattle.lit_model.specs.Page.{PartView, ampersand, comma, escaped, single, range}
 use Rattle.csl_style.specs.declared.style.settings.PageRangeFormat.{PageRangeFormat}
 use Rattle.csl_style.specs.declared.style.settings.PageRangeFormat.TheVariants.{Expanded, Minimal, MinimalTwo, Chicago15, Chicago16}

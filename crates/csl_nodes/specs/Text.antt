@@ -1,9 +1,9 @@
 -- Texts that call no macro (CSL 1.0.2, Text; Affixes; Quotes; Strip-periods; Appendix VI, Links):
 -- how they resolve, their dry run, the variables that they show, their content and the state that
--- they leave.
+-- they leave. A resolved text of the code is plain data by `resolved_view`.
 use Rattle.std.specs.Prelude.{ℕ, Bool, true, false, not, ◌&&◌, ◌||◌, ◌==◌, List, [], ◌++◌, length, Option, Some, None, option_map, is_some, Result, codes, bytes_eq, if◌then◌else◌}
 use denote.Enum.Bare.{sameb}
-use Rattle.lit_model.specs.Text.{Chunk}
+use Rattle.lit_model.specs.Text.{Chunk, chunks}
 use Rattle.lit_model.specs.Chunks.{chunks_text, is_empty}
 use Rattle.csl_common.specs.declared.form.LongShortForm.{LongShortForm}
 use Rattle.csl_elements.specs.declared.taxonomy.Variable.{Variable}
@@ -26,16 +26,18 @@ use Rattle.csl_tree.specs.Tokens.{Token, Meta, of_text, of_citation_label, of_ci
 use Rattle.csl_tree.specs.Content.{◌++>◌, elem_content}
 use Rattle.csl_entry.specs.declared.citation.cite.SpecialForm.{SpecialForm}
 use Rattle.csl_entry.specs.declared.citation.cite.SpecialForm.TheVariants.{VarOnly, OnlyFirstDate, OnlyYearSuffix, SuppressAuthor}
-use Rattle.csl_entry.specs.Answers.{Answers}
-use Rattle.csl_entry.specs.NumberResult.{NumberOrPageView}
+use Rattle.csl_entry.specs.Answers.{Answers, cow_view}
+use Rattle.csl_entry.specs.NumberResult.{NumberOrPageView, number_or_page_view}
 use Rattle.csl_context.specs.State.{State, Inherited, state_after_resolve, with_node_formatting}
 use Rattle.csl_context.specs.RenderInput.{RenderInput, peek_standard, term_in}
 use Rattle.csl_context.specs.Texts.{text_in, chunks_in, link_in}
-use Rattle.csl_context.specs.ContextView.{ContextView, Runs, render_input}
+use Rattle.csl_context.specs.Context.{ContextView, Runs, render_input}
 use Rattle.csl_context.specs.declared.error.RenderError.{RenderError}
 use Rattle.csl_context.specs.Quotes.{toggled_if, quoted_between}
 use Rattle.csl_nodes.specs.NumberOrPage.{peek_number_or_page, shown_in, text_node_text}
 use Rattle.csl_nodes.specs.Usage.{usage_flags, no_usage_flags, Info, info_of}
+use Rattle.csl_nodes.specs.declared.resolved.ResolvedText as declared
+use Rattle.csl_nodes.specs.declared.resolved.ResolvedText.TheVariants as of_found
 
 -- the rendering of a node: its content, and the state that it leaves
 pub record RenderOutput : Type 0 where
@@ -289,3 +291,12 @@ target_state w (of_value bs) s = s
 
 abbrev pub text_output : RenderInput → Target → TextDressing → Inherited → State → RenderOutput
 text_output w t d inh s = render_output (resolved_content w d inh (resolved_text w s t)) (target_state w t s)
+
+-- ---- resolved texts of the code
+
+-- a resolved text of the code, as plain data
+abbrev pub resolved_view : declared.ResolvedText → ResolvedText
+resolved_view (of_found.StandardText v found) = standard_text v (cow_view chunks found)
+resolved_view (of_found.NumberResult v found) = number_result v (number_or_page_view found)
+resolved_view (of_found.Term words) = term words.now
+resolved_view (of_found.Value words) = value words.now

@@ -3,7 +3,7 @@
 
 ghost use Rattle.csl_elements.specs.Dressing.{dressing_of};
 ghost use Rattle.csl_tree.specs.Tokens.{meta_of};
-ghost use Rattle.csl_context.specs.ContextView.{Runs, with_content};
+ghost use Rattle.csl_context.specs.Context.{Runs, with_content};
 ghost use Rattle.csl_nodes.specs.Boxes.{body_in, in_plain, plain_box};
 
 use crate::dressing::{Body, write_body};

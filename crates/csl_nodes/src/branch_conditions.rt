@@ -3,9 +3,9 @@
 ghost use Rattle.std.specs.Prelude.{◌≡◌, option_map, slice_get};
 ghost use Rattle.std.specs.Iterator.{YieldsFirst, item_count};
 ghost use Rattle.csl_elements.specs.View.{view_branch};
-ghost use Rattle.csl_context.specs.ContextView.{render_input};
-ghost use Rattle.csl_nodes.specs.Conditions.{all_if, conditions_at, conditions};
-ghost use Rattle.csl_nodes.specs.RemainingConditions.{next_arm, arms_from, remaining_conditions, context_of, tests_of, ReadsAt, ReadsNext};
+ghost use Rattle.csl_context.specs.Context.{render_input};
+ghost use Rattle.csl_nodes.specs.Condition.{all_if, conditions_at, conditions};
+ghost use Rattle.csl_nodes.specs.BranchConditions.{next_arm, arms_from, remaining_conditions, context_of, tests_of, ReadsAt, ReadsNext};
 
 use crate::condition::{
     is_disambiguated, is_located, is_numeric, is_of_kind, is_positioned, is_present, is_uncertain,

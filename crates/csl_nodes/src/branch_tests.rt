@@ -1,10 +1,11 @@
 //! Whether a branch is taken (CSL 1.0.2, Choose), from its lists of tests, without an iterator.
+//! Definitions: specs/Condition.antt, specs/BranchConditions.antt.
 
 ghost use Rattle.std.specs.Prelude.{◌≡◌, map, IfErr, option_map};
 ghost use Rattle.csl_elements.specs.View.{view_branch};
-ghost use Rattle.csl_context.specs.ContextView.{Gives, FailsSilently, render_input};
-ghost use Rattle.csl_nodes.specs.Conditions.{is_numeric, is_uncertain, is_located, is_positioned, is_of_kind, is_present, is_disambiguated, one_if, all_if, conditions, has_outcome, branch_matches};
-ghost use Rattle.csl_nodes.specs.RemainingConditions.{tests_of};
+ghost use Rattle.csl_context.specs.Context.{Gives, FailsSilently, render_input};
+ghost use Rattle.csl_nodes.specs.Condition.{is_numeric, is_uncertain, is_located, is_positioned, is_of_kind, is_present, is_disambiguated, one_if, all_if, conditions, has_outcome, branch_matches};
+ghost use Rattle.csl_nodes.specs.BranchConditions.{tests_of};
 
 use crate::condition::{
     is_disambiguated, is_located, is_numeric, is_of_kind, is_positioned, is_present, is_uncertain,

@@ -2,8 +2,8 @@
 
 ghost use Rattle.std.specs.Prelude.{◌≡◌, false, IfOk, OnOk, IfErr};
 ghost use Rattle.lit_model.specs.Text.{chunks};
-ghost use Rattle.csl_context.specs.ContextView.{FailsSilently, render_input};
-ghost use Rattle.csl_nodes.specs.Conditions.{is_number, is_numeric, is_uncertain, is_located, is_ibid, is_ibid_with_locator, is_positioned, is_of_kind, is_present, is_disambiguated};
+ghost use Rattle.csl_context.specs.Context.{FailsSilently, render_input};
+ghost use Rattle.csl_nodes.specs.Condition.{is_number, is_numeric, is_uncertain, is_located, is_ibid, is_ibid_with_locator, is_positioned, is_of_kind, is_present, is_disambiguated};
 
 use csl_context::{Context, RenderError};
 use csl_entry::{EntryLike, IbidState, NumberVariableResult, as_deref};

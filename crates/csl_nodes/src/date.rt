@@ -5,8 +5,8 @@ ghost use Rattle.lit_model.specs.Date.{date_view};
 ghost use Rattle.csl_elements.specs.View.{view_date};
 ghost use Rattle.csl_entry.specs.Answers.{cow_view};
 ghost use Rattle.csl_context.specs.RenderInput.{peek_date};
-ghost use Rattle.csl_context.specs.ContextView.{Runs, GivesBy, render_input, with_content};
-ghost use Rattle.csl_nodes.specs.Dates.{date_box, date_info, date_shows, date_output, is_own, date_shows_variable, date_shows_own, printed_date, date_or_key, resolved_date, localized_node};
+ghost use Rattle.csl_context.specs.Context.{Runs, GivesBy, render_input, with_content};
+ghost use Rattle.csl_nodes.specs.Date.{date_box, date_info, date_shows, date_output, is_own, date_shows_variable, date_shows_own, printed_date, date_or_key, resolved_date, localized_node};
 ghost use Rattle.csl_nodes.specs.Text.{Appends};
 ghost use Rattle.csl_nodes.specs.Usage.{info_view};
 

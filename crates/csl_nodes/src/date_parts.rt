@@ -1,4 +1,5 @@
 //! The parts of a date (CSL 1.0.2, Date-part; Localized Date Formats; Affixes, Delimiter).
+//! Definitions: specs/Date.antt, specs/Boxes.antt.
 
 ghost use Rattle.std.specs.Prelude.{◌≡◌, ◌&&◌, not, map, unwrap_or, option_map, IfOk, string_bytes, None, if◌then◌else◌};
 ghost use Rattle.lit_model.specs.Date.{date_view};
@@ -6,10 +7,10 @@ ghost use Rattle.csl_elements.specs.declared.date.DateParts.TheVariants.{YearMon
 ghost use Rattle.csl_elements.specs.Dressing.{dressing_of};
 ghost use Rattle.csl_elements.specs.View.{view_date_part};
 ghost use Rattle.csl_tree.specs.Tokens.{has_children};
-ghost use Rattle.csl_context.specs.ContextView.{Runs, Gives, render_input, with_content};
+ghost use Rattle.csl_context.specs.Context.{Runs, Gives, render_input, with_content};
 ghost use Rattle.csl_context.specs.Texts.{text_in, between_in};
 ghost use Rattle.csl_nodes.specs.Boxes.{in_plain, plain_between};
-ghost use Rattle.csl_nodes.specs.Dates.{is_suffix_alone, own_part, form_over, formatting_over, part_under, part_over, suffix_with, part_value, is_stripped, part_content, date_body, localized_node, own_parts, own_named};
+ghost use Rattle.csl_nodes.specs.Date.{is_suffix_alone, own_part, form_over, formatting_over, part_under, part_over, suffix_with, part_value, is_stripped, part_content, date_body, localized_node, own_parts, own_named};
 
 use crate::boxes::NodeDressing;
 use crate::date_suffix::is_suffix_alone;

@@ -1,8 +1,9 @@
 //! The year suffix after the first year (CSL 1.0.2, Disambiguation: disambiguate-add-year-suffix).
+//! Definitions: specs/Date.antt.
 
 ghost use Rattle.std.specs.Prelude.{◌≡◌, string_bytes};
-ghost use Rattle.csl_context.specs.ContextView.{Runs, GivesBy, render_input, with_first_date};
-ghost use Rattle.csl_nodes.specs.Dates.{implicit_suffix, first_suffix, is_suffix_alone};
+ghost use Rattle.csl_context.specs.Context.{Runs, GivesBy, render_input, with_first_date};
+ghost use Rattle.csl_nodes.specs.Date.{implicit_suffix, first_suffix, is_suffix_alone};
 
 use crate::resolved::peek_standard;
 use csl_context::{Context, RenderError};

@@ -1,10 +1,11 @@
 //! The box, affixes and quotes around the body of a text (CSL 1.0.2, Formatting, Affixes, Display,
 //! Quotes, Strip-periods).
+//! Definitions: specs/Text.antt, specs/Boxes.antt.
 
 ghost use Rattle.csl_elements.specs.Dressing.{affix_texts};
 ghost use Rattle.csl_elements.specs.View.{text_dressing};
 ghost use Rattle.csl_tree.specs.Tokens.{optional_meta};
-ghost use Rattle.csl_context.specs.ContextView.{Runs, with_content};
+ghost use Rattle.csl_context.specs.Context.{Runs, with_content};
 ghost use Rattle.csl_nodes.specs.Text.{render_output, in_body, text_box, with_output};
 ghost use Rattle.csl_nodes.specs.Boxes.{body_in};
 

@@ -1,7 +1,8 @@
 //! A call that appends nothing.
+//! Definitions: specs/Text.antt.
 
 ghost use Rattle.std.specs.Prelude.{[]};
-ghost use Rattle.csl_context.specs.ContextView.{Runs};
+ghost use Rattle.csl_context.specs.Context.{Runs};
 ghost use Rattle.csl_nodes.specs.Text.{render_output, with_output};
 
 use csl_context::{Context, RenderError};

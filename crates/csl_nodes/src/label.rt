@@ -3,8 +3,8 @@
 ghost use Rattle.std.specs.Prelude.{◌≡◌, option_map};
 ghost use Rattle.csl_elements.specs.Names.{view_label};
 ghost use Rattle.csl_entry.specs.NumberResult.{result_view, number_or_page_view};
-ghost use Rattle.csl_context.specs.ContextView.{GivesBy, render_input};
-ghost use Rattle.csl_nodes.specs.Labels.{label_info, label_output, label_term, is_count, plural_number, is_plural, label_text, is_locator, is_other_number, label_unless_locator, label_by_special_form};
+ghost use Rattle.csl_context.specs.Context.{GivesBy, render_input};
+ghost use Rattle.csl_nodes.specs.Label.{label_info, label_output, label_term, is_count, plural_number, is_plural, label_text, is_locator, is_other_number, label_unless_locator, label_by_special_form};
 ghost use Rattle.csl_nodes.specs.Text.{Appends};
 ghost use Rattle.csl_nodes.specs.Usage.{info_view};
 

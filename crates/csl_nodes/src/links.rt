@@ -1,4 +1,5 @@
 //! Identifiers that link to an address (CSL 1.0.2, Appendix VI: Links).
+//! Definitions: specs/Text.antt.
 
 ghost use Rattle.std.specs.Prelude.{◌≡◌, ◌++◌, IfOk, option_map, string_bytes};
 ghost use Rattle.lit_model.specs.Text.{chunks};

@@ -2,12 +2,12 @@
 
 ghost use Rattle.std.specs.Prelude.{◌≡◌, true, Some, None, IfOk, option_map, string_bytes};
 ghost use Rattle.lit_model.specs.Numeric.{value_view};
-ghost use Rattle.lit_model.specs.NumericText.{integer_text, value_text};
+ghost use Rattle.lit_model.specs.NumericWrite.{integer_text, value_text};
 ghost use Rattle.csl_elements.specs.View.{view_number};
 ghost use Rattle.csl_tree.specs.Tokens.{meta_of};
 ghost use Rattle.csl_entry.specs.NumberResult.{number_or_page_view};
-ghost use Rattle.csl_context.specs.ContextView.{Runs, GivesBy, render_input, with_content};
-ghost use Rattle.csl_nodes.specs.Numbers.{is_shown, presence_info, number_info, number_shows, number_output, sort_text_if, number_meta, number_content, optional_number_content};
+ghost use Rattle.csl_context.specs.Context.{Runs, GivesBy, render_input, with_content};
+ghost use Rattle.csl_nodes.specs.Number.{is_shown, presence_info, number_info, number_shows, number_output, sort_text_if, number_meta, number_content, optional_number_content};
 ghost use Rattle.csl_nodes.specs.Text.{Appends};
 ghost use Rattle.csl_nodes.specs.Usage.{info_view};
 

@@ -6,7 +6,7 @@ ghost use Rattle.lit_model.specs.Numeric.{numeric_view};
 ghost use Rattle.csl_elements.specs.Taxonomy.{variable_of};
 ghost use Rattle.csl_entry.specs.NumberResult.{result_view, number_or_page_view};
 ghost use Rattle.csl_context.specs.RenderInput.{number_text};
-ghost use Rattle.csl_context.specs.ContextView.{Runs, GivesBy, render_input, after_resolve};
+ghost use Rattle.csl_context.specs.Context.{Runs, GivesBy, render_input, after_resolve};
 ghost use Rattle.csl_nodes.specs.NumberOrPage.{peek_number_or_page, number_text_view, number_result_text, number_node_text, text_node_text};
 
 use crate::pages::{pages_in_style, with_dashes};

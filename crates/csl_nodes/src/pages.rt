@@ -4,7 +4,7 @@
 ghost use Rattle.std.specs.Prelude.{◌≡◌, ◌++◌, true, length, IfOk, OnOk, string_bytes};
 ghost use Rattle.std.specs.Str.{IsAscii};
 ghost use Rattle.lit_model.specs.Numeric.{numeric_view};
-ghost use Rattle.lit_model.specs.NumericText.{numeric_text};
+ghost use Rattle.lit_model.specs.NumericWrite.{numeric_text};
 ghost use Rattle.lit_model.specs.Page.{part_view, pages_view};
 ghost use Rattle.csl_nodes.specs.Pages.{is_digits, completed_end, abbreviated_end, kept_digits, end_text, range_text, part_text, pages_in_format, pages_in_style, with_dashes};
 

@@ -1,5 +1,6 @@
 //! Resolves texts that call no macro (CSL 1.0.2, Text: variable, term, value). Name and date
 //! variables resolve to nothing.
+//! Definitions: specs/Text.antt.
 
 ghost use Rattle.std.specs.Prelude.{◌≡◌, option_map};
 ghost use Rattle.lit_model.specs.Text.{chunks};
@@ -7,9 +8,9 @@ ghost use Rattle.csl_elements.specs.Node.{of_variable, of_term, of_value};
 ghost use Rattle.csl_entry.specs.Answers.{cow_view};
 ghost use Rattle.csl_entry.specs.NumberResult.{number_or_page_view};
 ghost use Rattle.csl_context.specs.RenderInput.{peek_standard};
-ghost use Rattle.csl_context.specs.ContextView.{Runs, GivesBy, render_input};
+ghost use Rattle.csl_context.specs.Context.{Runs, GivesBy, render_input};
 ghost use Rattle.csl_nodes.specs.Text.{resolved_text, resolved_info, number_result, variable_state};
-ghost use Rattle.csl_nodes.specs.Resolved.{resolved_view};
+ghost use Rattle.csl_nodes.specs.Text.{resolved_view};
 ghost use Rattle.csl_nodes.specs.Usage.{info_view};
 
 use crate::number_or_page::{peek_number_or_page, resolve_number_or_page};

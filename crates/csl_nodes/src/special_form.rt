@@ -1,4 +1,5 @@
 //! The texts that a special form of a cite shows.
+//! Definitions: specs/Text.antt.
 
 ghost use Rattle.std.specs.Prelude.{◌≡◌};
 ghost use Rattle.csl_nodes.specs.Text.{survives_only_forms, shows_variable, shows_terms_and_values, shows_macro_affixes};

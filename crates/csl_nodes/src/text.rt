@@ -7,9 +7,9 @@ ghost use Rattle.lit_model.specs.Chunks.{chunks_text};
 ghost use Rattle.csl_elements.specs.Node.{of_variable, of_term, of_value};
 ghost use Rattle.csl_elements.specs.View.{text_dressing};
 ghost use Rattle.csl_tree.specs.Tokens.{meta_of};
-ghost use Rattle.csl_context.specs.ContextView.{Runs, Gives, GivesBy, render_input};
+ghost use Rattle.csl_context.specs.Context.{Runs, Gives, GivesBy, render_input};
 ghost use Rattle.csl_nodes.specs.Text.{Appends, standard_text, render_output, in_body, text_box, calls_variable, resolved_affixes, standard_meta, numeral_meta, resolved_meta, resolved_body, resolved_content, target_info, target_shows, text_output, with_output};
-ghost use Rattle.csl_nodes.specs.Resolved.{resolved_view};
+ghost use Rattle.csl_nodes.specs.Text.{resolved_view};
 ghost use Rattle.csl_nodes.specs.Usage.{info_view};
 
 use crate::dressing::{Body, render_body};

@@ -35,12 +35,12 @@ use Rattle.csl_context.specs.State.{State, Inherited, state_after_resolve, with_
 use Rattle.csl_context.specs.RenderInput.{RenderInput, peek_names, peek_date, term_in}
 use Rattle.csl_names.specs.NamesLists.{PersonLists, same_variables, may_merge, merged_lists, all_empty, each_resolved, state_after_resolve_all, peeked_lists, resolved_lists, lists_state, is_pair}
 use Rattle.csl_nodes.specs.NumberOrPage.{peek_number_or_page}
-use Rattle.csl_nodes.specs.Conditions.{is_some_and, is_number, is_typed, is_typed_result, is_numeric, is_uncertain, is_disambiguated, is_of_kind, is_present, one_if, all_if, branch_matches}
-use Rattle.csl_nodes.specs.Dates.{date_shows_own, variable_info, localized_over, printed_date, date_or_key, resolved_date, variable_output}
+use Rattle.csl_nodes.specs.Condition.{is_some_and, is_number, is_typed, is_typed_result, is_numeric, is_uncertain, is_disambiguated, is_of_kind, is_present, one_if, all_if, branch_matches}
+use Rattle.csl_nodes.specs.Date.{date_shows_own, variable_info, localized_over, printed_date, date_or_key, resolved_date, variable_output}
 use Rattle.csl_nodes.specs.Usage.{info_of, no_usage_flags, no_info, should_render_group, info_union, as_child_info, without_group_flag, group_info, macro_info}
-use Rattle.csl_nodes.specs.Labels.{is_plural, label_term, term_if, text_beside, label_text, label_info, label_box, label_output, label_by_special_form}
-use Rattle.csl_nodes.specs.Numbers.{shows_own, presence_info, number_info, sort_text_if, number_content, optional_number_content, number_output}
-use Rattle.csl_render.specs.PairOutput.{with_answers}
+use Rattle.csl_nodes.specs.Label.{is_plural, label_term, term_if, text_beside, label_text, label_info, label_box, label_output, label_by_special_form}
+use Rattle.csl_nodes.specs.Number.{shows_own, presence_info, number_info, sort_text_if, number_content, optional_number_content, number_output}
+use Rattle.csl_render.specs.Pair.{with_answers}
 use Rattle.csl_nodes.specs.Text.{RenderOutput, render_output, then_output, shows_variable, standard_text, number_result, ResolvedText, resolved_variable, resolved_text, calls, resolved_info, is_of, resolved_content, variable_state, target_state, text_output}
 use Rattle.csl_render.specs.Names.{author, is_refused, names_show, names_info, in_substitute, suppressing_from, lists_or_substitute}
 use Rattle.csl_render.specs.Tree.{is_group, info, nodes_info, branches_info, substitute_info, shows, any_shows, branches_show, substitute_shows, names_output, node_output, nodes_output, delimited_output, branches_output, output_until_text, substitute_output, delimited_child_output, macro_output, in_macro, group_output, in_group, layout_output}

@@ -5,7 +5,7 @@ use denote.Bor.{Bor}
 use Rattle.csl_elements.specs.declared.element.Names.{Names}
 use Rattle.csl_elements.specs.NamesParts.{names_node, names_substitutes, first_substitute}
 use Rattle.csl_elements.specs.Node.{Nodes, ExpandedNode, ExpandedNodes, expand_nodes}
-use Rattle.csl_context.specs.ContextView.{ContextView, frame, Runs, Becomes, FailsAs}
+use Rattle.csl_context.specs.Context.{ContextView, frame, Runs, Becomes, FailsAs}
 use Rattle.csl_context.specs.State.{State}
 use Rattle.csl_context.specs.RenderInput.{RenderInput}
 use Rattle.csl_context.specs.declared.error.RenderError.{RenderError}

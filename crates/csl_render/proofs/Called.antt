@@ -6,7 +6,7 @@ use Rattle.csl_style.specs.Expanded.{macro_env}
 use Rattle.csl_tree.specs.Content.{elem_content}
 use Rattle.csl_entry.specs.Answers.{Answers}
 use Rattle.csl_context.specs.Bodies.{BodyAttributes, values_before, with_open_body, with_closed_body}
-use Rattle.csl_context.specs.ContextView.{ContextView, render_input, with_part, close_part_by, with_delimiter, without_delimiter}
+use Rattle.csl_context.specs.Context.{ContextView, render_input, with_part, close_part_by, with_delimiter, without_delimiter}
 use Rattle.csl_nodes.specs.Text.{with_output}
 use Rattle.csl_render.specs.Tree.{nodes_output}
 

@@ -8,7 +8,7 @@ use Rattle.csl_elements.specs.Node.{Node, choose, Nodes, Branches, no_branches, 
 use Rattle.csl_elements.specs.View.{view_branch, view_choose, branches_of, NamesChildView, BranchView, element_step, child_step, choose_step, branch_step, group_step, names_step, substitute_step}
 use Rattle.csl_context.specs.State.{State, Inherited}
 use Rattle.csl_context.specs.RenderInput.{RenderInput}
-use Rattle.csl_nodes.specs.Conditions.{branch_matches, chosen_nodes, chosen_children}
+use Rattle.csl_nodes.specs.Condition.{branch_matches, chosen_nodes, chosen_children}
 use Rattle.csl_render.specs.Tree.{info, shows, node_output, branches_info, branches_show, branches_output, choice_info, choice_shows, choice_output}
 
 abbrev pub IsChoice : Node → Type 0

@@ -24,20 +24,20 @@ use Rattle.csl_style.specs.Style.{StyleParts}
 use Rattle.csl_style.specs.YearSuffix.{reached_layout, is_year_suffix_implicit}
 use Rattle.csl_tree.specs.declared.formatting.Formatting.{Formatting}
 use Rattle.csl_tree.specs.Content.{◌++>◌, text_content}
-use Rattle.csl_tree.specs.Writing.{plain_text}
+use Rattle.csl_tree.specs.Write.{plain_text}
 use Rattle.csl_entry.specs.Answers.{Answers}
 use Rattle.csl_entry.specs.Cite.{CiteState}
 use Rattle.csl_entry.specs.Instance.{year_suffix}
 use Rattle.csl_entry.specs.declared.citation.cite.Sorting.{Sorting}
-use Rattle.csl_context.specs.ContextView.{initial_state, base_inherited}
+use Rattle.csl_context.specs.Context.{initial_state, base_inherited}
 use Rattle.csl_context.specs.State.{Inherited, state_after_resolve, with_node_formatting}
 use Rattle.csl_context.specs.RenderInput.{RenderInput, peek_date}
 use Rattle.csl_nodes.specs.DateKey.{place_key, year_key, key_if, is_keyed, sort_key, full_key, time_order}
-use Rattle.csl_nodes.specs.Dates.{date_shows_own, suffix_text, implicit_suffix, resolved_date, variable_output}
+use Rattle.csl_nodes.specs.Date.{date_shows_own, suffix_text, implicit_suffix, resolved_date, variable_output}
 use Rattle.csl_nodes.specs.Text.{render_output}
 use Rattle.csl_nodes.proofs.Theorems.{full_keys_sort_by_time}
-use Rattle.csl_render.specs.CiteContent.{sort_key_text}
-use Rattle.csl_render.specs.PairOutput.{cite_input}
+use Rattle.csl_render.specs.Cites.{sort_key_text}
+use Rattle.csl_render.specs.Pair.{cite_input}
 use Rattle.csl_render.specs.SortedDates.{IsDateAlone, IsKeyedWhole, has_keyed_suffix, IsKeyDate, SortsByDate}
 use Rattle.csl_render.specs.Tree.{nodes_output}
 

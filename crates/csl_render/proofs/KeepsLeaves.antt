@@ -21,10 +21,10 @@ use Rattle.csl_entry.specs.NameProperties.{NameProperties}
 use Rattle.csl_entry.specs.declared.citation.cite.Sorting.{Sorting}
 use Rattle.csl_context.specs.State.{State, Inherited, state_after_resolve}
 use Rattle.csl_context.specs.RenderInput.{RenderInput, peek_date}
-use Rattle.csl_names.specs.CiteForms.{with_first_forms, with_first_forms_by}
+use Rattle.csl_names.specs.NamesKept.{with_first_forms, with_first_forms_by}
 use Rattle.csl_names.specs.NamesLists.{PersonLists, may_merge, all_empty, state_after_resolve_all, lists_state}
-use Rattle.csl_nodes.specs.Dates.{date_shows_own, printed_date, date_or_key, resolved_date, variable_output, localized_over}
-use Rattle.csl_nodes.specs.Numbers.{shows_own, number_output}
+use Rattle.csl_nodes.specs.Date.{date_shows_own, printed_date, date_or_key, resolved_date, variable_output, localized_over}
+use Rattle.csl_nodes.specs.Number.{shows_own, number_output}
 use Rattle.csl_nodes.specs.Text.{RenderOutput, render_output, shows_variable, state_after_text_resolve, target_state}
 use Rattle.csl_render.specs.Names.{suppressing_from, boxed_substitute, lists_output, lists_or_substitute}
 use Rattle.csl_render.specs.Keeps.{Keeps}

@@ -7,12 +7,12 @@ use Rattle.csl_tree.specs.Tokens.{has_text}
 use Rattle.csl_context.specs.State.{State, Inherited, with_node_formatting}
 use Rattle.csl_context.specs.RenderInput.{RenderInput}
 use Rattle.csl_names.specs.NamesLists.{all_empty, lists_state, resolved_lists}
-use Rattle.csl_nodes.specs.Conditions.{branch_matches}
+use Rattle.csl_nodes.specs.Condition.{branch_matches}
 use Rattle.csl_nodes.specs.Usage.{should_render_group}
 use Rattle.csl_nodes.specs.Text.{RenderOutput, render_output, then_output}
 use Rattle.csl_render.specs.Keeps.{Keeps}
 use Rattle.csl_render.specs.Names.{in_substitute, suppressing_from}
-use Rattle.csl_render.specs.Rendering.{Renderable, of_layout, of_node, output_in}
+use Rattle.csl_render.specs.Render.{Renderable, of_layout, of_node, output_in}
 use Rattle.csl_render.specs.Tree.{info, node_output, nodes_output, delimited_output, branches_output, output_until_text, substitute_output, in_macro, in_group, delimited_child_output, refused_in}
 use Rattle.csl_render.proofs.KeepsLeaves.{keeps_itself, keeps_through, either_keeps, lists_keep, target_keeps, number_keeps, date_keeps, names_keep}
 

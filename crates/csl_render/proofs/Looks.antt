@@ -14,7 +14,7 @@ use Rattle.csl_elements.specs.declared.taxonomy.Variable.{Variable}
 use Rattle.csl_elements.specs.declared.taxonomy.Variable.TheVariants as variable
 use Rattle.csl_elements.specs.NamedSet.{a_variable, a_kind}
 use Rattle.csl_style.specs.Named.{the_variable, the_kind, the_number_or_page}
-use Rattle.csl_elements.specs.OfCitation.{is_of_citation}
+use Rattle.csl_elements.specs.Taxonomy.{is_of_citation}
 use Rattle.csl_elements.proofs.Variables.{variable_ordered, kind_ordered}
 use Rattle.csl_entry.specs.Alike.{SameNamedAnswers, SameAnswer}
 use Rattle.csl_entry.specs.Answers.{Answers}
@@ -23,7 +23,7 @@ use Rattle.csl_entry.proofs.Looks.{number_alike, standard_alike}
 use Rattle.csl_context.specs.State.{State, is_suppressed}
 use Rattle.csl_context.specs.RenderInput.{RenderInput, peek_number, peek_page, peek_standard, peek_names, peek_date}
 use Rattle.csl_nodes.specs.NumberOrPage.{peek_number_or_page}
-use Rattle.csl_render.specs.PairOutput.{with_answers}
+use Rattle.csl_render.specs.Pair.{with_answers}
 
 module _ (a b : Answers) where
   -- the same answer for a variable that is named, unless the citation answers it

@@ -13,8 +13,8 @@ use Rattle.csl_entry.specs.declared.citation.cite.SpecialForm.{SpecialForm}
 use Rattle.csl_entry.specs.declared.citation.cite.SpecialForm.TheVariants.{VarOnly, OnlyFirstDate, OnlyYearSuffix, SuppressAuthor}
 use Rattle.csl_context.specs.RenderInput.{RenderInput}
 use Rattle.csl_context.specs.State.{State}
-use Rattle.csl_nodes.specs.Dates.{date_shows_variable}
-use Rattle.csl_nodes.specs.Numbers.{is_shown}
+use Rattle.csl_nodes.specs.Date.{date_shows_variable}
+use Rattle.csl_nodes.specs.Number.{is_shown}
 use Rattle.csl_nodes.specs.Text.{ResolvedText, resolved_text, same_variable, shows_variable, target_shows}
 use Rattle.csl_render.specs.Names.{author}
 use Rattle.csl_render.specs.Plan.{asks_for_author}

@@ -5,17 +5,17 @@ use Rattle.csl_style.specs.Named.{named_in_nodes}
 use Rattle.csl_elements.specs.Node.{expand_layout}
 use Rattle.csl_elements.specs.View.{view_layout}
 use Rattle.csl_style.specs.Expanded.{macro_env}
-use Rattle.csl_tree.specs.Writing.{text_in_format}
+use Rattle.csl_tree.specs.Write.{text_in_format}
 use Rattle.csl_tree.specs.declared.elem.BufWriteFormat.TheVariants.{Html}
 use Rattle.csl_entry.specs.Alike.{SameNamedAnswers}
 use Rattle.csl_entry.specs.Answers.{Answers}
 use Rattle.csl_context.specs.declared.context.Rendered.{Rendered}
 use Rattle.csl_context.specs.declared.error.RenderError.{RenderError}
 use Rattle.csl_context.specs.declared.error.RenderError.TheVariants.{Memory, Failed}
-use Rattle.csl_context.specs.ContextView.{ContextView, FailsAs, base_inherited}
+use Rattle.csl_context.specs.Context.{ContextView, FailsAs, base_inherited}
 use Rattle.csl_context.specs.State.{State}
 use Rattle.csl_context.specs.RenderInput.{RenderInput}
-use Rattle.csl_render.specs.PairOutput.{with_answers, layout_output_from, Prints, PrintsSame}
+use Rattle.csl_render.specs.Pair.{with_answers, layout_output_from, Prints, PrintsSame}
 use Rattle.csl_render.proofs.AlikeNodes.{layout_alike}
 
 -- a call fails only with `Memory` if the context has not failed before it

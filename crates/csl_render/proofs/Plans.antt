@@ -20,12 +20,12 @@ use Rattle.csl_entry.specs.Alike.{Each}
 use Rattle.csl_entry.specs.declared.citation.cite.SpecialForm.{SpecialForm}
 use Rattle.csl_entry.specs.declared.citation.cite.SpecialForm.TheVariants.{VarOnly, OnlyFirstDate, OnlyYearSuffix, SuppressAuthor}
 use Rattle.csl_context.specs.State.{State}
-use Rattle.csl_context.specs.ContextView.{ContextView, render_input}
+use Rattle.csl_context.specs.Context.{ContextView, render_input}
 use Rattle.csl_context.specs.RenderInput.{RenderInput}
 use Rattle.csl_entry.specs.Answers.{Answers}
 use Rattle.csl_names.specs.NamesForms.{writes_no_name}
 use Rattle.csl_names.specs.NamesLists.{PersonLists, all_empty, peeked_lists}
-use Rattle.csl_nodes.specs.Conditions.{branch_matches, chosen_nodes, chosen_children}
+use Rattle.csl_nodes.specs.Condition.{branch_matches, chosen_nodes, chosen_children}
 use Rattle.csl_nodes.specs.Usage.{Info, group_info, info_view, no_info}
 use Rattle.csl_render.specs.declared.plan.AskedNode.{AskedNode}
 use Rattle.csl_render.specs.declared.plan.NodeInfo.{NodeInfo}

@@ -27,11 +27,11 @@ use Rattle.csl_context.specs.RenderInput.{RenderInput, peek_number, peek_page, p
 use Rattle.csl_names.specs.NamesLists.{all_empty, peeked_lists}
 use Rattle.csl_entry.specs.NumberResult.{number, page}
 use Rattle.csl_nodes.specs.NumberOrPage.{peek_number_or_page}
-use Rattle.csl_nodes.specs.Conditions.{is_some_and, is_number, is_typed, is_typed_result, is_numeric, is_uncertain, is_present, all_if, branch_matches}
-use Rattle.csl_nodes.specs.Dates.{date_shows_variable, variable_info}
+use Rattle.csl_nodes.specs.Condition.{is_some_and, is_number, is_typed, is_typed_result, is_numeric, is_uncertain, is_present, all_if, branch_matches}
+use Rattle.csl_nodes.specs.Date.{date_shows_variable, variable_info}
 use Rattle.csl_nodes.specs.Usage.{info_of, no_usage_flags, no_info}
-use Rattle.csl_nodes.specs.Labels.{text_beside, label_by_special_form, label_info}
-use Rattle.csl_nodes.specs.Numbers.{presence_info, shows_own, number_info}
+use Rattle.csl_nodes.specs.Label.{text_beside, label_by_special_form, label_info}
+use Rattle.csl_nodes.specs.Number.{presence_info, shows_own, number_info}
 use Rattle.csl_nodes.specs.Text.{standard_text, number_result, shows_variable, calls, resolved_variable, resolved_text, resolved_info, is_of, target_info}
 use Rattle.csl_elements.specs.declared.variable_set.VariableSet.{VariableSet}
 use Rattle.csl_render.specs.Names.{is_refused, names_show}

@@ -1,17 +1,17 @@
 -- The context after the calls that render a substitute, one after another.
 use Rattle.std.proofs.Common.{◌≡◌, Bool, true, [], refl}
-use Rattle.csl_elements.specs.NameOptions.{PartialOptions}
+use Rattle.csl_elements.specs.NamesOptions.{PartialOptions}
 use Rattle.csl_elements.specs.Names.{NamesNode}
 use Rattle.csl_elements.specs.Node.{Nodes, expand_substitute_nodes}
 use Rattle.csl_style.specs.Expanded.{macro_env}
 use Rattle.csl_tree.specs.Content.{elem_content}
 use Rattle.csl_entry.specs.Answers.{Answers}
-use Rattle.csl_context.specs.ContextView.{ContextView, render_input, with_part, close_part_by, with_format, without_format, with_options, without_options, with_switch}
-use Rattle.csl_names.specs.NamesContent.{lists_meta}
+use Rattle.csl_context.specs.Context.{ContextView, render_input, with_part, close_part_by, with_format, without_format, with_options, without_options, with_switch}
+use Rattle.csl_names.specs.NamesNode.{lists_meta}
 use Rattle.csl_names.specs.NamesLists.{PersonLists}
 use Rattle.csl_nodes.specs.Text.{render_output, with_output}
 use Rattle.csl_render.specs.Names.{in_substitute, suppressing_from, boxed_substitute}
-use Rattle.csl_render.specs.Rendering.{with_whole_output}
+use Rattle.csl_render.specs.Render.{with_whole_output}
 use Rattle.csl_render.specs.Tree.{output_until_text}
 
 module _ {T : Type 0} (answers : T → Answers) (ls : PersonLists) (ns : Nodes) where

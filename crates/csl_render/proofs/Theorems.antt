@@ -14,11 +14,11 @@ use Rattle.csl_entry.specs.declared.citation.cite.SpecialForm.{SpecialForm}
 use Rattle.csl_entry.specs.declared.citation.cite.SpecialForm.TheVariants.{SuppressAuthor}
 use Rattle.csl_entry.specs.Snapshot.{snapshot_of, kept_in}
 use Rattle.csl_entry.proofs.Kept.{alike_of, same_named}
-use Rattle.csl_context.specs.ContextView.{initial_state, base_inherited}
-use Rattle.csl_render.specs.CiteContent.{special_cite, whole_cite, named_by, AgreeButForAuthors}
+use Rattle.csl_context.specs.Context.{initial_state, base_inherited}
+use Rattle.csl_render.specs.Cites.{special_cite, whole_cite, named_by, AgreeButForAuthors}
 use Rattle.csl_render.specs.Laws.{AlikeEntriesRenderAlike, RenderingKeepsState, SnapshotsRenderAlike, AnswersDecide, EqualSnapshotsCiteAlike, SuppressedAuthorsAreSilent, SortKeysOrderAsDates}
 use Rattle.csl_render.specs.Names.{author}
-use Rattle.csl_render.specs.PairOutput.{cite_input}
+use Rattle.csl_render.specs.Pair.{cite_input}
 use Rattle.csl_render.specs.Tested.{tested_by}
 use Rattle.csl_render.proofs.AuthorSilent.{author_silent}
 use Rattle.csl_render.proofs.AlikeNodes.{layout_alike}

@@ -12,7 +12,7 @@ use Rattle.csl_elements.proofs.Sets.{or_left, or_right}
 use Rattle.csl_elements.proofs.Variables.{variable_decides}
 use Rattle.csl_elements.specs.View.{NamesChildView, BranchView, view_branch, element_step, child_step, choose_step, branch_step, group_step, names_step, substitute_step}
 use Rattle.csl_entry.specs.Alike.{Each}
-use Rattle.csl_nodes.specs.RemainingConditions.{tests_of}
+use Rattle.csl_nodes.specs.BranchConditions.{tests_of}
 use Rattle.csl_elements.specs.declared.variable_set.VariableSet.{VariableSet}
 use Rattle.csl_render.specs.Plan.{HasTested}
 use Rattle.csl_elements.specs.VariableSet.{has, Has, IsWithin, with_variable}

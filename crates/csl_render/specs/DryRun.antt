@@ -8,10 +8,10 @@ use Rattle.std.specs.Ordering.{nat_cmp}
 use Rattle.csl_elements.specs.declared.taxonomy.Variable.{Variable}
 use Rattle.csl_elements.specs.Node.{ExpandedNodes}
 use Rattle.csl_elements.specs.View.{definitions}
-use Rattle.csl_style.specs.Calls.{name_at}
+use Rattle.csl_style.specs.CallGraph.{name_at}
 use Rattle.csl_style.specs.Expanded.{macro_env}
 use Rattle.csl_style.specs.Style.{StyleParts}
-use Rattle.csl_context.specs.ContextView.{ContextView}
+use Rattle.csl_context.specs.Context.{ContextView}
 use Rattle.csl_context.specs.State.{State}
 use Rattle.csl_context.specs.RenderInput.{RenderInput}
 use Rattle.csl_nodes.specs.Usage.{Info, no_info, without_group_flag, macro_info}

@@ -1,4 +1,4 @@
--- The laws of rendering, over the definitions of `Tree` and `Rendering`. Each holds for every input,
+-- The laws of rendering, over the definitions of `Tree` and `Render`. Each holds for every input,
 -- and `proofs/Theorems.antt` proves it. The first two are clauses of `render_pair`, and the last one
 -- is the clause `by_date` of `sort_key`, for the key that it returns.
 use Rattle.std.specs.Prelude.{◌≡◌, true, false, Option, Some}
@@ -18,11 +18,11 @@ use Rattle.csl_entry.specs.declared.citation.cite.SpecialForm.TheVariants.{Suppr
 use Rattle.csl_entry.specs.Snapshot.{snapshot_of, kept_in}
 use Rattle.csl_context.specs.RenderInput.{RenderInput}
 use Rattle.csl_context.specs.State.{Inherited, State}
-use Rattle.csl_render.specs.CiteContent.{new_cite, sort_key_text, named_by, AgreeButForAuthors}
+use Rattle.csl_render.specs.Cites.{new_cite, sort_key_text, named_by, AgreeButForAuthors}
 use Rattle.csl_render.specs.Keeps.{Keeps}
 use Rattle.csl_render.specs.Names.{author}
-use Rattle.csl_render.specs.PairOutput.{with_answers}
-use Rattle.csl_render.specs.Rendering.{Renderable, output_in}
+use Rattle.csl_render.specs.Pair.{with_answers}
+use Rattle.csl_render.specs.Render.{Renderable, output_in}
 use Rattle.csl_render.specs.SortedDates.{SortsByDate}
 use Rattle.csl_render.specs.Tested.{tested_in_nodes}
 use Rattle.csl_render.specs.Tree.{layout_output}

@@ -5,10 +5,10 @@ pub mod Expanded
 pub mod Tree
 pub mod Plan
 pub mod DryRun
-pub mod Rendering
-pub mod PairOutput
+pub mod Render
+pub mod Pair
 pub mod Keeps
-pub mod CiteContent
+pub mod Cites
 pub mod Tested
 pub mod SortedDates
 pub mod Laws

@@ -10,7 +10,7 @@ use Rattle.csl_elements.specs.declared.taxonomy.NameVariable.{NameVariable}
 use Rattle.csl_elements.specs.declared.taxonomy.NameVariable.TheVariants.{Author}
 use Rattle.csl_elements.specs.declared.taxonomy.Variable.{Variable}
 use Rattle.csl_elements.specs.declared.taxonomy.Variable.TheVariants as variable
-use Rattle.csl_elements.specs.NameOptions.{apply_options}
+use Rattle.csl_elements.specs.NamesOptions.{apply_options}
 use Rattle.csl_elements.specs.Names.{NamesNode, shorthand_expansion}
 use Rattle.csl_elements.specs.NamesParts.{names_node, names_substitutes}
 use Rattle.csl_elements.specs.Node.{ExpandedNode, expanded_text, expanded_macro, unknown_macro, expanded_number, expanded_label, expanded_date, expanded_names, shorthand, expanded_choose, expanded_group, ExpandedNodes, no_expanded_nodes, expanded_node, ExpandedSubstitutes, no_expanded_substitutes, expanded_substitute, expand_substitutes}
@@ -19,7 +19,7 @@ use Rattle.csl_entry.specs.declared.citation.cite.SpecialForm.{SpecialForm}
 use Rattle.csl_entry.specs.declared.citation.cite.SpecialForm.TheVariants.{VarOnly, OnlyFirstDate, OnlyYearSuffix, SuppressAuthor}
 use Rattle.csl_context.specs.State.{State, Inherited, with_node_formatting}
 use Rattle.csl_context.specs.RenderInput.{RenderInput}
-use Rattle.csl_names.specs.NamesContent.{lists_meta, names_content, names_state}
+use Rattle.csl_names.specs.NamesNode.{lists_meta, names_content, names_state}
 use Rattle.csl_names.specs.NamesForms.{writes_no_name}
 use Rattle.csl_names.specs.NamesLists.{PersonLists, all_empty}
 use Rattle.csl_nodes.specs.Usage.{usage_flags, Info, info_of, no_info}

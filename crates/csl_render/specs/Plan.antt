@@ -24,8 +24,8 @@ use Rattle.csl_entry.specs.Alike.{Each}
 use Rattle.csl_entry.specs.Answers.{Answers}
 use Rattle.csl_context.specs.State.{State, is_suppressed}
 use Rattle.csl_context.specs.RenderInput.{RenderInput}
-use Rattle.csl_context.specs.ContextView.{ContextView, render_input}
-use Rattle.csl_nodes.specs.Conditions.{all_if, branch_matches}
+use Rattle.csl_context.specs.Context.{ContextView, render_input}
+use Rattle.csl_nodes.specs.Condition.{all_if, branch_matches}
 use Rattle.csl_nodes.specs.Usage.{Info, info_view}
 use Rattle.csl_render.specs.declared.plan.AskedNode.{AskedNode}
 use Rattle.csl_render.specs.declared.plan.DryState.{DryState}

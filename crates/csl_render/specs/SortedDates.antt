@@ -22,7 +22,7 @@ use Rattle.csl_entry.specs.Cite.{CiteState}
 use Rattle.csl_entry.specs.Instance.{year_suffix}
 use Rattle.csl_entry.specs.declared.citation.cite.Sorting.{Sorting}
 use Rattle.csl_nodes.specs.DateKey.{is_keyed, HasKeyYear, time_order}
-use Rattle.csl_render.specs.CiteContent.{sort_key_text}
+use Rattle.csl_render.specs.Cites.{sort_key_text}
 
 -- the layout has this date, of this variable, and nothing else
 abbrev pub IsDateAlone : Layout → DateNode → DateVariable → Type 0

@@ -19,11 +19,11 @@ use Rattle.csl_context.specs.State.{State, Inherited, with_node_formatting}
 use Rattle.csl_context.specs.RenderInput.{RenderInput}
 use Rattle.csl_context.specs.Texts.{text_in, affixed_in}
 use Rattle.csl_names.specs.NamesLists.{PersonLists, all_empty, peeked_lists, resolved_lists, lists_state}
-use Rattle.csl_nodes.specs.Conditions.{branch_matches}
+use Rattle.csl_nodes.specs.Condition.{branch_matches}
 use Rattle.csl_nodes.specs.Usage.{should_render_group, Info, no_info, info_union, as_child_info, without_group_flag, group_info, macro_info}
-use Rattle.csl_nodes.specs.Numbers.{number_info, number_shows, number_output}
-use Rattle.csl_nodes.specs.Labels.{label_info, label_output}
-use Rattle.csl_nodes.specs.Dates.{date_info, date_shows, date_output}
+use Rattle.csl_nodes.specs.Number.{number_info, number_shows, number_output}
+use Rattle.csl_nodes.specs.Label.{label_info, label_output}
+use Rattle.csl_nodes.specs.Date.{date_info, date_shows, date_output}
 use Rattle.csl_nodes.specs.Text.{RenderOutput, render_output, then_output, in_body, text_box, no_affix_texts, target_info, target_shows, text_output, shows_macro_affixes}
 use Rattle.csl_render.specs.Names.{author, is_refused, names_show, names_info, in_substitute, suppressing_from, lists_or_substitute}
 

@@ -1,4 +1,5 @@
 //! Choices (CSL 1.0.2, Choose).
+//! Definitions: specs/Tree.antt, specs/Plan.antt.
 
 ghost use Rattle.std.specs.Prelude.{◌<◌, ◌≡◌, List, IfOk, IfErr, IfSome, option_map};
 ghost use Rattle.csl_elements.specs.declared.taxonomy.Variable.{Variable};
@@ -6,8 +7,8 @@ ghost use Rattle.csl_elements.specs.declared.taxonomy.Variable.TheVariants as va
 ghost use Rattle.csl_entry.specs.Alike.{Each};
 ghost use Rattle.csl_elements.specs.Node.{size, sizes};
 ghost use Rattle.csl_elements.specs.View.{view_nodes, view_branch, view_choose};
-ghost use Rattle.csl_context.specs.ContextView.{Reads, GivesBy, FailsSilently, render_input};
-ghost use Rattle.csl_nodes.specs.Conditions.{all_if, chosen_children};
+ghost use Rattle.csl_context.specs.Context.{Reads, GivesBy, FailsSilently, render_input};
+ghost use Rattle.csl_nodes.specs.Condition.{all_if, chosen_children};
 ghost use Rattle.csl_render.specs.declared.plan.PlanItem.{PlanItem};
 ghost use Rattle.csl_render.specs.Expanded.{expanded, expanded_nodes, expanded_taken};
 ghost use Rattle.csl_render.specs.Plan.{DryView, HasTested, HasAllTested, AreInside, AreOfTaken};

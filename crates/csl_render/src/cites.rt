@@ -12,10 +12,10 @@ ghost use Rattle.csl_entry.specs.Alike.{SameNamedAnswers};
 ghost use Rattle.csl_entry.specs.Answers.{Answers};
 ghost use Rattle.csl_entry.specs.Cite.{cite_state};
 ghost use Rattle.csl_entry.specs.declared.citation.cite.SpecialForm.TheVariants as special_forms;
-ghost use Rattle.csl_context.specs.LeftState.{left_state_view};
-ghost use Rattle.csl_render.specs.CiteContent.{new_cite, sort_key_text, special_cite, whole_cite, named_by, AgreeButForAuthors, Covers, HoldsForAlike};
+ghost use Rattle.csl_context.specs.State.{left_state_view};
+ghost use Rattle.csl_render.specs.Cites.{new_cite, sort_key_text, special_cite, whole_cite, named_by, AgreeButForAuthors, Covers, HoldsForAlike};
 ghost use Rattle.csl_render.specs.Names.{author};
-ghost use Rattle.csl_render.specs.PairOutput.{cite_input, layout_output_from, output_of, Prints, PrintsSame};
+ghost use Rattle.csl_render.specs.Pair.{cite_input, layout_output_from, output_of, Prints, PrintsSame};
 ghost use Rattle.csl_render.specs.SortedDates.{SortsByDate};
 ghost use Rattle.csl_render.specs.Tested.{tested_by};
 

@@ -3,7 +3,7 @@
 
 ghost use Rattle.std.specs.Prelude.{◌≡◌, ◌<◌, ◌-◌, [], length, set, IfOk, IfSome};
 ghost use Rattle.csl_style.specs.Expanded.{macro_env};
-ghost use Rattle.csl_context.specs.ContextView.{render_input};
+ghost use Rattle.csl_context.specs.Context.{render_input};
 ghost use Rattle.csl_render.specs.DryRun.{Adds, IsCallInfo, nodes_at};
 ghost use Rattle.csl_render.specs.Plan.{dry_now};
 
@@ -39,7 +39,7 @@ impl<'c, 's, T: EntryLike> Model for DryRun<'c, 's, T> {
     ghost use Rattle.csl_elements.specs.contracts.element.CslMacro as of_macro;
     ghost use Rattle.csl_elements.specs.contracts.element.Layout as of_layout;
     ghost use Rattle.csl_elements.specs.SetCode.{set_code};
-    ghost use Rattle.csl_context.specs.ContextView.{render_input};
+    ghost use Rattle.csl_context.specs.Context.{render_input};
     ghost use Rattle.csl_render.specs.DryRun.{HasInfos, Run};
     ghost use Rattle.csl_render.specs.Plan.{dry_now};
 

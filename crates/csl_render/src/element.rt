@@ -1,15 +1,16 @@
 //! Nodes, and lists of nodes.
+//! Definitions: specs/Tree.antt, specs/Plan.antt, specs/Render.antt.
 
 ghost use Rattle.std.specs.Prelude.{◌≡◌, true, IfOk, IfSome};
 ghost use Rattle.csl_elements.specs.Node.{expand};
 ghost use Rattle.csl_elements.specs.View.{view_node, view_nodes, view_rendering};
-ghost use Rattle.csl_context.specs.ContextView.{Runs, Gives, render_input};
+ghost use Rattle.csl_context.specs.Context.{Runs, Gives, render_input};
 ghost use Rattle.csl_render.specs.DryRun.{Adds};
 ghost use Rattle.csl_render.specs.Expanded.{expanded, expanded_nodes};
 ghost use Rattle.csl_render.specs.Names.{Macros};
 ghost use Rattle.csl_render.specs.Plan.{dry_now, IsInfoOfNodes, IsDryRunOf, IsPlanOf, HasPlansOf};
 ghost use Rattle.csl_render.specs.Tree.{any_shows, is_group, node_output, nodes_output, delimited_output, delimited_child_output};
-ghost use Rattle.csl_render.specs.Rendering.{element_rendering, prints_in, after_child};
+ghost use Rattle.csl_render.specs.Render.{element_rendering, prints_in, after_child};
 ghost use Rattle.csl_nodes.specs.Text.{Appends};
 
 use crate::dry_run::DryRun;

@@ -1,9 +1,10 @@
 //! Groups (CSL 1.0.2, Group).
+//! Definitions: specs/Tree.antt, specs/Plan.antt.
 
 ghost use Rattle.std.specs.Prelude.{None, IfOk};
 ghost use Rattle.csl_tree.specs.Content.{elem_content};
 ghost use Rattle.csl_elements.specs.View.{view_group};
-ghost use Rattle.csl_context.specs.ContextView.{Runs, IsInnermost, close_part_by};
+ghost use Rattle.csl_context.specs.Context.{Runs, IsInnermost, close_part_by};
 ghost use Rattle.csl_nodes.specs.Text.{Appends};
 ghost use Rattle.csl_render.specs.Expanded.{expanded};
 ghost use Rattle.csl_render.specs.Plan.{IsDryRunOf, IsPlanOf};

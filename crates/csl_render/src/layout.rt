@@ -1,9 +1,10 @@
 //! Layouts (CSL 1.0.2, Layout).
+//! Definitions: specs/Render.antt.
 
 ghost use Rattle.csl_elements.specs.Node.{expand_layout};
 ghost use Rattle.csl_elements.specs.View.{view_layout};
 ghost use Rattle.csl_style.specs.Expanded.{macro_env};
-ghost use Rattle.csl_render.specs.Rendering.{of_layout};
+ghost use Rattle.csl_render.specs.Render.{of_layout};
 
 use crate::dry_run::DryRun;
 use crate::element::{any_shows, nodes_info, render_all};

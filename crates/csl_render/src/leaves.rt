@@ -1,5 +1,6 @@
 //! Numbers, labels and dates (CSL 1.0.2, Number; Label; Date). They hold no other nodes, and
 //! `csl_nodes` renders them.
+//! Definitions: specs/Expanded.antt.
 
 ghost use Rattle.std.specs.Prelude.{IfSome};
 ghost use Rattle.csl_elements.specs.declared.taxonomy.Variable.TheVariants as variable;

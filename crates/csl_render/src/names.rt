@@ -8,17 +8,16 @@ ghost use Rattle.csl_elements.specs.NamesParts.{names_node, names_substitutes, f
 ghost use Rattle.csl_elements.specs.Node.{ExpandedNode, expand, expand_nodes, expand_substitute_nodes, no_expanded_substitutes, as_substitute_child};
 ghost use Rattle.csl_elements.specs.View.{view_node, view_nodes, view_names};
 ghost use Rattle.csl_style.specs.Expanded.{macro_env};
-ghost use Rattle.csl_context.specs.ContextView.{Runs, Gives, render_input};
+ghost use Rattle.csl_context.specs.Context.{Runs, Gives, render_input};
 ghost use Rattle.csl_names.specs.NamesForms.{writes_no_name};
-ghost use Rattle.csl_names.specs.NamesLists.{all_empty, peeked_lists};
-ghost use Rattle.csl_names.specs.PersonLists.{list_of};
+ghost use Rattle.csl_names.specs.NamesLists.{all_empty, peeked_lists, list_of};
 ghost use Rattle.csl_render.specs.DryRun.{Adds};
 ghost use Rattle.csl_render.specs.Expanded.{expanded, expanded_substitutes};
 ghost use Rattle.csl_render.specs.Names.{Macros, author, has_variable, is_of_names, is_names_of, any_is_names_of, substitute_has_names_of, expanded_substitutes_of, standing_in, refuses_alone, is_refused, names_show, names_or_substitute_info, in_substitute, suppressing_from, boxed_substitute};
 ghost use Rattle.csl_nodes.specs.Text.{Appends, render_output};
 ghost use Rattle.csl_nodes.specs.Usage.{info_view, no_info};
 ghost use Rattle.csl_render.specs.Plan.{asks_for_author, dry_now, IsInfoOfSubstitutes, IsDryRunOf, TellsAuthorOf, IsPlanOf, HasPlansOf, HasPlansWithin};
-ghost use Rattle.csl_render.specs.Rendering.{with_whole_output};
+ghost use Rattle.csl_render.specs.Render.{with_whole_output};
 ghost use Rattle.csl_render.specs.Tree.{node_output, substitute_shows, substitute_output, output_until_text, refused_in, names_output, shorthand_output};
 
 use crate::dry_run::DryRun;

@@ -1,13 +1,14 @@
 //! One contract for all nodes: dry run, shown variables and content.
+//! Definitions: specs/Tree.antt, specs/Plan.antt.
 
 ghost use Rattle.std.specs.Prelude.{◌≡◌, IfOk, IfSome};
 ghost use Rattle.csl_elements.specs.Node.{ExpandedNode};
 ghost use Rattle.csl_style.specs.Style.{StyleParts};
-ghost use Rattle.csl_context.specs.ContextView.{Gives, render_input};
+ghost use Rattle.csl_context.specs.Context.{Gives, render_input};
 ghost use Rattle.csl_nodes.specs.Text.{Appends};
 ghost use Rattle.csl_render.specs.DryRun.{Adds};
 ghost use Rattle.csl_render.specs.Plan.{dry_now, IsInfo, IsPlan};
-ghost use Rattle.csl_render.specs.Rendering.{of_node};
+ghost use Rattle.csl_render.specs.Render.{of_node};
 ghost use Rattle.csl_render.specs.Tree.{node_output, shows};
 
 use crate::dry_run::DryRun;

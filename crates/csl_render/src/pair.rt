@@ -9,9 +9,9 @@ ghost use Rattle.csl_elements.specs.View.{view_layout};
 ghost use Rattle.csl_style.specs.Expanded.{macro_env};
 ghost use Rattle.csl_entry.specs.Alike.{SameNamedAnswers};
 ghost use Rattle.csl_entry.specs.Cite.{cite_state};
-ghost use Rattle.csl_context.specs.LeftState.{left_state_view};
+ghost use Rattle.csl_context.specs.State.{left_state_view};
 ghost use Rattle.csl_render.specs.Laws.{RenderingKeepsState, AlikeEntriesRenderAlike};
-ghost use Rattle.csl_render.specs.PairOutput.{cite_input, layout_output_from, Prints, PrintsSame};
+ghost use Rattle.csl_render.specs.Pair.{cite_input, layout_output_from, Prints, PrintsSame};
 
 use crate::cites::render_from;
 use csl_context::{LeftState, RenderError, Rendered};

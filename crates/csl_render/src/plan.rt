@@ -5,7 +5,7 @@ ghost use Rattle.std.specs.Prelude.{◌≡◌, ◌↔◌, ◌||◌, false, IfSom
 ghost use Rattle.csl_elements.specs.declared.taxonomy.Variable.{Variable};
 ghost use Rattle.csl_elements.specs.Node.{ExpandedNode, ExpandedNodes, expanded_node};
 ghost use Rattle.csl_elements.specs.VariableSet.{has};
-ghost use Rattle.csl_context.specs.ContextView.{render_input};
+ghost use Rattle.csl_context.specs.Context.{render_input};
 ghost use Rattle.csl_nodes.specs.Usage.{info_view, info_union, as_child_info, usage_flags_of};
 ghost use Rattle.csl_render.specs.Plan.{asks_for_dates, dry_now, dry_view, AreAlikeOn, answer_of, IsPlan, ArePlans};
 

@@ -1,7 +1,8 @@
 //! Queries: whether nodes show a variable, over a context that is only read.
+//! Definitions: specs/DryRun.antt.
 
 ghost use Rattle.std.specs.Prelude.{◌≡◌, IfSome};
-ghost use Rattle.csl_context.specs.ContextView.{render_input};
+ghost use Rattle.csl_context.specs.Context.{render_input};
 ghost use Rattle.csl_render.specs.DryRun.{call_shows, nodes_at};
 
 use csl_context::Context;
@@ -25,7 +26,7 @@ impl<'c, 's, T: EntryLike> Model for Query<'c, 's, T> {
     ghost use Rattle.csl_elements.specs.contracts.element.CslMacro as of_macro;
     ghost use Rattle.csl_elements.specs.contracts.element.Layout as of_layout;
     ghost use Rattle.csl_elements.specs.SetCode.{set_code};
-    ghost use Rattle.csl_context.specs.ContextView.{render_input};
+    ghost use Rattle.csl_context.specs.Context.{render_input};
     ghost use Rattle.csl_render.specs.DryRun as dry_run;
     ghost use Rattle.csl_render.specs.DryRun.{HasShown};
 

@@ -1,9 +1,9 @@
 //! The three calls of a node or a layout: dry run, shown variables and content.
 
 ghost use Rattle.csl_style.specs.Style.{StyleParts};
-ghost use Rattle.csl_context.specs.ContextView.{Runs, Reads, render_input};
+ghost use Rattle.csl_context.specs.Context.{Runs, Reads, render_input};
 ghost use Rattle.csl_nodes.specs.Usage.{info_view};
-ghost use Rattle.csl_render.specs.Rendering.{Renderable, info_in, shows_in, after_render};
+ghost use Rattle.csl_render.specs.Render.{Renderable, info_in, shows_in, after_render};
 
 use csl_context::{Context, RenderError};
 use csl_entry::EntryLike;

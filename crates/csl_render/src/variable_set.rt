@@ -1,4 +1,5 @@
 //! Lists of variables, added to a set.
+//! Definitions: crates/csl_elements/specs/VariableSet.antt.
 
 ghost use Rattle.csl_elements.specs.declared.taxonomy.Variable.TheVariants as variable;
 ghost use Rattle.csl_elements.specs.VariableSet.{Has, IsWithin};

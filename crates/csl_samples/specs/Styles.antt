@@ -36,7 +36,7 @@ use Rattle.csl_elements.specs.declared.taxonomy.Variable.{Variable}
 use Rattle.csl_elements.specs.declared.taxonomy.Variable.TheVariants.{Standard, Page}
 use Rattle.csl_elements.specs.Constructors.{italic, short_label_of, text_before, text_after, texts_around, no_dressing}
 use Rattle.csl_elements.specs.Dressing.{AffixTexts}
-use Rattle.csl_elements.specs.NameOptions.{PartialOptions, no_options}
+use Rattle.csl_elements.specs.NamesOptions.{PartialOptions, no_options}
 use Rattle.csl_elements.specs.Names.{NameNode, view_label}
 use Rattle.csl_elements.specs.NamesParts.{default_name, no_formatting}
 use Rattle.csl_elements.specs.Node.{of_variable, DatePartNode, DateNode, Node, text, number, label, date, names, group, Nodes, no_nodes, node, LayoutNode}

@@ -1,4 +1,5 @@
 //! The labels and the kinds of the built-in entries.
+//! Definitions: specs/Entries.antt.
 
 ghost use Rattle.std.specs.Prelude.{◌≡◌, IfOk, string_bytes};
 ghost use Rattle.csl_samples.specs.Entries.{IsBuiltIn, label_text, is_built_in_kind};

@@ -1,7 +1,7 @@
 //! The built-in styles.
 
 ghost use Rattle.std.specs.Prelude.{◌≡◌, IfOk, map};
-ghost use Rattle.csl_elements.specs.NameOptions.{partial_options};
+ghost use Rattle.csl_elements.specs.NamesOptions.{partial_options};
 ghost use Rattle.csl_elements.specs.Node.{node, no_nodes};
 ghost use Rattle.csl_elements.specs.View.{view_node, view_child, view_layout, view_nodes};
 ghost use Rattle.csl_elements.specs.View.{a_name, a_substitute};

@@ -14,7 +14,7 @@ use Rattle.csl_elements.specs.declared.element.ChooseBranch.{ChooseBranch, out-C
 use Rattle.csl_elements.specs.declared.element.Names.{Names as NamesElement, out-Names}
 use Rattle.csl_elements.specs.declared.element.NamesChild.{NamesChild}
 use Rattle.csl_style.specs.AllNodes.{all_nodes, nodes_inside, nodes_in_branches, nodes_in_substitutes, nodes_in_child, nodes_left, called_name, is_suffix_text}
-use Rattle.csl_style.specs.Calls.{calls_in, calls_in_all, calls_in_branches, calls_in_substitutes, own_calls}
+use Rattle.csl_style.specs.CallGraph.{calls_in, calls_in_all, calls_in_branches, calls_in_substitutes, own_calls}
 use Rattle.csl_style.specs.YearSuffix.{has_year_suffix, any_has_year_suffix, branches_have_year_suffix, macro_has_year_suffix}
 use Rattle.csl_style.proofs.YearSuffixes.{nodes_out, behind, choose_out, substitute_has_year_suffix, substitutes_size, insteads_same, insteads_sized}
 

@@ -1,12 +1,12 @@
 -- Macros lead to each other by name exactly as their places do in the graph of calls.
 use Rattle.std.proofs.Common.{◌≡◌, ℕ, List, length, slice_index, Option, Some, None, option_map, true, refl, sym, ◌∙◌, subst, arith, Contains}
 use Rattle.std.proofs.lemmas.Bool.Decides.{nat_tests}
-use Rattle.csl_style.specs.GraphReach.{Graph, HasEdge, Reaches, along_edge, along_edges, HasRanks, ArePlaceRanks, IsFirstCyclicPlace}
+use Rattle.csl_style.specs.Cycles.{Graph, HasEdge, Reaches, along_edge, along_edges, HasRanks, ArePlaceRanks, IsFirstCyclicPlace}
 use Rattle.csl_elements.specs.View.{Definition}
 use Rattle.csl_style.specs.Expansion.{macro_index, macro_body, rank_of, is_below, body_below, IsAcyclic}
 use Rattle.csl_style.specs.MacroCalls.{OneCalls, BodyCalls, LeadsTo, at_once, through}
-use Rattle.csl_style.specs.Calls.{name_at, children_at, IsCallGraph}
-use Rattle.csl_style.specs.Cyclic.{IsFirstCyclic}
+use Rattle.csl_style.specs.CallGraph.{name_at, children_at, IsCallGraph}
+use Rattle.csl_style.specs.Style.{IsFirstCyclic}
 use Rattle.csl_style.proofs.Edges.{edge-from}
 use Rattle.csl_style.proofs.Meanings.{body-none}
 use Rattle.csl_style.proofs.Called.{place-is, all-from, all-into, all-below-by}

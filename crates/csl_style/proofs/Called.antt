@@ -5,12 +5,12 @@ use Rattle.std.specs.Str.{bytes_eq}
 use Rattle.std.proofs.lemmas.Bool.Decides.{nat_tests}
 use Rattle.std.proofs.lemmas.Slice.Eq.{bytes_eq-Decides}
 use Rattle.std.proofs.lemmas.List.Elements.{Contains-get_or, Contains-append_left, Contains-append_right, Contains-append_cases}
-use Rattle.csl_style.specs.GraphReach.{Graph, InRange, row_at}
+use Rattle.csl_style.specs.Cycles.{Graph, InRange, row_at}
 use Rattle.csl_elements.specs.Node.{Node, text, call, number, label, date, names, choose, group, Nodes, no_nodes, node, Branches, no_branches, otherwise, branch, Substitutes, no_substitutes, substitute}
 use Rattle.csl_elements.specs.View.{Definition, definitions, view_nodes}
 use Rattle.csl_style.specs.Expansion.{macro_index, macro_body, is_below, calls_below, all_below, branches_below, substitutes_below}
 use Rattle.csl_style.specs.MacroCalls.{Calls, OneCalls, BranchCalls, SubstituteCalls}
-use Rattle.csl_style.specs.Calls.{calls_in, calls_in_all, calls_in_branches, calls_in_substitutes, name_at, children_at, IsCallGraph}
+use Rattle.csl_style.specs.CallGraph.{calls_in, calls_in_all, calls_in_branches, calls_in_substitutes, name_at, children_at, IsCallGraph}
 use Rattle.csl_elements.specs.declared.element.CslMacro.{CslMacro}
 
 -- the macro at the place of a name has this name, and the nodes that the name stands for

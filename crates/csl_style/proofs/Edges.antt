@@ -2,7 +2,7 @@
 use Rattle.std.proofs.Common.{◌≡◌, ℕ, zero, suc, ◌<◌, List, [], ◌∷◌, length, slice_index, get_or, Bool, true, sym, ap, ◌∙◌, subst, arith, Vec, Global, All, Contains}
 use Rattle.std.proofs.lemmas.List.Elements.{All-head, All-tail, All-contains, Contains-get_or}
 use Rattle.std.proofs.lemmas.Grind.{get_or_default_zero}
-use Rattle.csl_style.specs.GraphReach.{Graph, InRange, row_at, HasEdge, Reaches, along_edge, along_edges, is_marked}
+use Rattle.csl_style.specs.Cycles.{Graph, InRange, row_at, HasEdge, Reaches, along_edge, along_edges, is_marked}
 use Rattle.csl_style.proofs.Marks.{FirstMarked}
 
 edge-nowhere : (b : ℕ) → Contains [] b → ⊥

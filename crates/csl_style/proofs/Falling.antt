@@ -2,7 +2,7 @@
 use Rattle.std.proofs.Common.{◌≡◌, ℕ, ◌+◌, ◌<◌, ◌≤◌, List, length, slice_index, Bool, true, false, nat_eq, refl, sym, ◌∙◌, subst, arith, Contains}
 use Rattle.std.proofs.lemmas.Bool.Decides.{nat_tests}
 use Rattle.std.proofs.lemmas.Grind.{get_or_default_zero}
-use Rattle.csl_style.specs.GraphReach.{Graph, HasEdge, Reaches, along_edge, along_edges, ArePlaceRanks, ArePlaceLevels, Falls}
+use Rattle.csl_style.specs.Cycles.{Graph, HasEdge, Reaches, along_edge, along_edges, ArePlaceRanks, ArePlaceLevels, Falls}
 use Rattle.csl_style.proofs.Edges.{edge-from}
 
 -- it falls along the first i edges of the row

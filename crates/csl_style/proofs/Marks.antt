@@ -1,7 +1,7 @@
 -- The number of marked places.
 use Rattle.std.proofs.Common.{◌≡◌, ◌≢◌, ℕ, zero, suc, ◌<◌, ◌≤◌, ◌+◌, List, [], ◌∷◌, length, slice_index, set, replicate, Bool, true, false, nat_eq, refl, ap, arith, ◌⊎◌, inl, inr, get_or-set_same, get_or-set_other}
 use Rattle.std.proofs.lemmas.Bool.Decides.{nat_tests}
-use Rattle.csl_style.specs.GraphReach.{is_marked}
+use Rattle.csl_style.specs.Cycles.{is_marked}
 
 abbrev pub marks : List Bool → ℕ
 marks [] = 0

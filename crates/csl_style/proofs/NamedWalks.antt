@@ -10,9 +10,9 @@ use Rattle.csl_elements.specs.Node.{Node, Nodes, ExpandedNodes, expand_nodes, si
 use Rattle.csl_elements.specs.View.{Definition, view_nodes}
 use Rattle.csl_elements.specs.declared.element.CslMacro.{CslMacro}
 use Rattle.csl_style.specs.AllNodes.{all_nodes, called_name}
-use Rattle.csl_style.specs.Calls.{call_of, children_at, own_calls}
+use Rattle.csl_style.specs.CallGraph.{call_of, children_at, own_calls}
 use Rattle.csl_style.specs.Expansion.{macro_index, macro_body, macro_expansion, expansion_to_depth}
-use Rattle.csl_style.specs.GraphReach.{is_marked}
+use Rattle.csl_style.specs.Cycles.{is_marked}
 use Rattle.csl_style.specs.Named.{named_in_nodes, named_in_macro}
 use Rattle.csl_style.specs.NamedWalk.{named_itself, called_nodes, AreMarked, IsCall, IsFirstCall}
 use Rattle.csl_style.proofs.AllNodesLaws.{called_cost, expansion_cost, costs, costs_append, all_cost}

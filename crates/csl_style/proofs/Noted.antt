@@ -21,7 +21,7 @@ use Rattle.csl_elements.specs.contracts.taxonomy.KindOrd.TheImpl.{cmp-value as c
 use Rattle.csl_elements.specs.declared.named.Named.{Named}
 use Rattle.csl_elements.specs.NamedSet.{NamedItem, a_variable, a_kind, named_union, empty_named_set, named_set}
 use Rattle.csl_style.specs.Named.{the_variable, the_kind}
-use Rattle.csl_elements.specs.OfCitation.{is_of_citation}
+use Rattle.csl_elements.specs.Taxonomy.{is_of_citation}
 use Rattle.csl_elements.proofs.Sets.{or_false}
 
 added : (p x : Bool) → cond p true x ≡ (x || p)

@@ -9,7 +9,7 @@ use mathlib.Core.Path.{fun_ext}
 use denote.Enum.Bare.{sameb}
 use Rattle.csl_common.specs.declared.ordinal.GrammarGender.{GrammarGender}
 use Rattle.csl_common.specs.contracts.ordinal.GrammarGender.{the_type}
-use Rattle.csl_common.specs.Ordinals.{has_long_ordinal}
+use Rattle.csl_common.specs.Ordinal.{has_long_ordinal}
 use Rattle.csl_elements.specs.declared.locale.Locale.{Locale}
 use Rattle.csl_elements.specs.declared.locale.OrdinalSlot.{OrdinalSlot}
 use Rattle.csl_elements.specs.declared.locale.OrdinalSlot.TheVariants.{Default, Long}
@@ -19,7 +19,7 @@ use Rattle.csl_elements.specs.contracts.locale.OrdinalSlot.{enum as slots}
 use Rattle.csl_elements.specs.contracts.locale.OrdinalSlotPartialEq.TheImpl.{eq-value}
 use Rattle.csl_elements.specs.declared.locale.OrdinalTerm.{OrdinalTerm}
 use Rattle.csl_elements.specs.Locale.{OrdinalView, ordinal_view, ordinals_of}
-use Rattle.csl_elements.specs.Ordinal.{ordinal_for, first_of, first_ordinals, slot_between, is_in, for_gender}
+use Rattle.csl_elements.specs.Ordinals.{ordinal_for, first_of, first_ordinals, slot_between, is_in, for_gender}
 use Rattle.csl_elements.proofs.Alike.{values_tell, bare, alone}
 use Rattle.csl_style.specs.FirstOrdinals.{OrdinalTest, first_passing, passes, same_key, AreFoundAs, HaveSameOrdinals}
 

@@ -1,7 +1,7 @@
 -- If no place leads to itself, the number of places that a place leads to is its rank.
 use Rattle.std.proofs.Common.{◌≡◌, ℕ, zero, suc, ◌<◌, ◌≤◌, List, [], ◌∷◌, ◌++◌, length, slice_index, Bool, true, false, nat_eq, refl, sym, ap, ◌∙◌, arith, length-append}
 use Rattle.std.proofs.lemmas.Bool.Decides.{nat_tests}
-use Rattle.csl_style.specs.GraphReach.{Graph, InRange, HasEdge, Reaches, along_edge, along_edges, is_marked, IsReach, ArePlaceRanks, HasRanks}
+use Rattle.csl_style.specs.Cycles.{Graph, InRange, HasEdge, Reaches, along_edge, along_edges, is_marked, IsReach, ArePlaceRanks, HasRanks}
 use Rattle.csl_style.proofs.Marks.{marks, Within, marks-less, marks-short}
 use Rattle.csl_style.proofs.Edges.{edge-within, edge-from}
 use Rattle.csl_style.proofs.Searching.{before-push, last-push}

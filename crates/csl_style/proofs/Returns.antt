@@ -5,7 +5,7 @@ use Rattle.csl_elements.specs.Node.{Node, text, call, number, label, date, names
 use Rattle.csl_elements.specs.View.{Definition}
 use Rattle.csl_style.specs.Expansion.{macro_body, macro_index, rank_of, is_below, calls_below, all_below, branches_below, substitutes_below, body_below, AreRanks, IsAcyclic}
 use Rattle.csl_style.specs.MacroCalls.{Calls, OneCalls, BranchCalls, SubstituteCalls, BodyCalls, LeadsTo, at_once, through}
-use Rattle.csl_style.specs.Cyclic.{HasNoCycle}
+use Rattle.csl_style.specs.Style.{HasNoCycle}
 use Rattle.csl_style.proofs.Meanings.{both, body-none}
 
 module _ (rank : List ℕ → Option ℕ) (r : ℕ) (name : List ℕ) where

@@ -1,7 +1,7 @@
 -- The invariant of a search, and the steps that keep it.
 use Rattle.std.proofs.Common.{◌≡◌, ℕ, zero, suc, ◌<◌, ◌≤◌, ◌+◌, List, [], ◌∷◌, ◌++◌, length, slice_index, set, replicate, Bool, true, false, nat_eq, refl, sym, ap, ◌∙◌, subst, arith, ◌⊎◌, inl, inr, length-set, length-append}
 use Rattle.std.proofs.lemmas.Bool.Decides.{nat_tests}
-use Rattle.csl_style.specs.GraphReach.{Graph, HasEdge, Reaches, along_edge, along_edges, is_marked, IsReach}
+use Rattle.csl_style.specs.Cycles.{Graph, HasEdge, Reaches, along_edge, along_edges, is_marked, IsReach}
 use Rattle.csl_style.proofs.Marks.{marks, marks-none, none-marked, none-length, marks-set, marked-before, still-marked}
 use Rattle.csl_style.proofs.Edges.{reaches-on}
 

@@ -3,7 +3,7 @@ use Rattle.std.proofs.Common.{◌≡◌, ℕ, List, Bool, false, slice_index_or,
 use Rattle.csl_elements.specs.Node.{expand_nodes}
 use Rattle.csl_elements.specs.View.{Definition}
 use Rattle.csl_style.specs.Expansion.{macro_index, macro_expansion, IsAcyclic}
-use Rattle.csl_style.specs.Calls.{children_at}
+use Rattle.csl_style.specs.CallGraph.{children_at}
 use Rattle.csl_style.specs.YearSuffix.{any_has_year_suffix, macro_has_year_suffix, AreKnown}
 use Rattle.csl_style.proofs.Called.{place-is}
 use Rattle.csl_style.proofs.Meanings.{body-none, meaning-unfolds}

@@ -12,7 +12,7 @@ use Rattle.csl_elements.specs.declared.locale.Locale.{Locale}
 use Rattle.csl_elements.specs.declared.locale.OrdinalSlot.{OrdinalSlot}
 use Rattle.csl_elements.specs.declared.locale.OrdinalMatch.{OrdinalMatch}
 use Rattle.csl_elements.specs.Locale.{OrdinalView, ordinals_of}
-use Rattle.csl_elements.specs.Ordinal.{ordinals, long_ordinals}
+use Rattle.csl_elements.specs.Ordinals.{ordinals, long_ordinals}
 
 -- a test of the three
 abbrev pub OrdinalTest : Type 0

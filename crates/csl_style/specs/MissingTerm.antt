@@ -48,7 +48,7 @@ use Rattle.csl_elements.specs.declared.term.Term.{Term}
 use Rattle.csl_elements.specs.declared.term.Term.TheVariants as terms
 use Rattle.csl_elements.specs.declared.term.TermForm.{TermForm}
 use Rattle.csl_elements.specs.declared.term.TermForm.TheVariants.{Long, Short}
-use Rattle.csl_elements.specs.Date.{date_in_form}
+use Rattle.csl_elements.specs.Lookup.{date_in_form}
 use Rattle.csl_elements.specs.Locale.{terms_of}
 use Rattle.csl_elements.specs.Names.{NameNode, EtAlNode, LabelNode, NamesLabel, NamesNode, first_name, shorthand_expansion}
 use Rattle.csl_elements.specs.Node.{DateNode, DatePartNode, Target, of_variable, of_term, of_value, ExpandedNode, expanded_text, expanded_macro, unknown_macro, expanded_number, expanded_label, expanded_date, expanded_names, shorthand, expanded_choose, expanded_group, ExpandedNodes, no_expanded_nodes, expanded_node, ExpandedBranches, no_expanded_branches, expanded_otherwise, expanded_branch, ExpandedSubstitutes, no_expanded_substitutes, expanded_substitute, expand_substitute_nodes, expand_layout}

@@ -5,7 +5,7 @@
 --   and kinds in `type`.
 -- Every branch counts, chosen or not, and so does every substitute. A names node without children
 -- in a substitute names its variables as written and as rendered. A macro that the style lacks
--- names nothing. The four variables of the citation (`OfCitation`) are not named. Only private
+-- names nothing. The four variables of the citation (`is_of_citation`) are not named. Only private
 -- contracts cite `named_in_child` and `named_in_branch`.
 use Rattle.std.specs.Prelude.{ℕ, false, not, ◌&&◌, List, [], ◌∷◌, Option, Some, None}
 use Rattle.std.specs.BTreeMap.{is_at}
@@ -21,7 +21,7 @@ use Rattle.csl_elements.specs.contracts.taxonomy.KindOrd.TheImpl.{cmp-value as c
 pub use Rattle.csl_elements.specs.NamedSet.{NamedItem, a_variable, a_kind, NamedSet, empty_named_set}
 unfoldable pub use Rattle.csl_elements.specs.NamedSet.{named_union}
 use Rattle.csl_elements.specs.Names.{NamesNode}
-use Rattle.csl_elements.specs.OfCitation.{is_of_citation}
+use Rattle.csl_elements.specs.Taxonomy.{is_of_citation}
 use Rattle.csl_elements.specs.View.{NamesChildView, a_name, an_et_al, a_label, a_substitute, BranchView}
 use Rattle.csl_elements.specs.Node.{Target, of_variable, of_term, of_value, Tests, ExpandedNode, expanded_text, expanded_macro, unknown_macro, expanded_number, expanded_label, expanded_date, expanded_names, shorthand, expanded_choose, expanded_group, ExpandedNodes, no_expanded_nodes, expanded_node, ExpandedBranches, no_expanded_branches, expanded_otherwise, expanded_branch, ExpandedSubstitutes, no_expanded_substitutes, expanded_substitute, expand_nodes}
 

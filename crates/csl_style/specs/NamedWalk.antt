@@ -9,9 +9,9 @@ use Rattle.csl_elements.specs.declared.named.Named.{Named}
 use Rattle.csl_elements.specs.Node.{Node, text, call, number, label, date, names, choose, group, Nodes, Branches, no_branches, otherwise, branch, ExpandedNodes, expand_nodes}
 use Rattle.csl_elements.specs.View.{Definition, view_branch}
 use Rattle.csl_style.specs.AllNodes.{called_name}
-use Rattle.csl_style.specs.Calls.{children_at, own_calls}
+use Rattle.csl_style.specs.CallGraph.{children_at, own_calls}
 use Rattle.csl_style.specs.Expansion.{macro_expansion}
-use Rattle.csl_style.specs.GraphReach.{is_marked}
+use Rattle.csl_style.specs.Cycles.{is_marked}
 use Rattle.csl_style.specs.Named.{named_in_target, the_number_or_page, date_if, named_in_names, named_in_tests}
 
 -- these items are added to those named before

@@ -1,8 +1,8 @@
 -- What nodes tell by the macro names that they call (CSL 1.0.2, Macro), in written order: `one` of
 -- each call, `none` where nothing is called, and `both` of what is beside one another. A call may be
 -- at any depth: in a group, in a branch of a choice or its `cs:else`, and in a substitute of names.
--- The first missing macro (`Missing`), the edges of the graph of calls (`Calls`) and the ranks of
--- macros (`Expansion`) are told so.
+-- The first missing macro (`Missing`), the edges of the graph of calls (`CallGraph`) and the ranks
+-- of macros (`Expansion`) are told so.
 use Rattle.std.specs.Prelude.{ℕ, List}
 use Rattle.csl_elements.specs.Node.{Node, text, call, number, label, date, names, choose, group, Nodes, no_nodes, node, Branches, no_branches, otherwise, branch, Substitutes, no_substitutes, substitute}
 

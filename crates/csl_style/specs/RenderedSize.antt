@@ -5,7 +5,7 @@
 -- - A localized date counts the parts of the style's date of its form too.
 -- The cost of a node is its rendered size without the one that it counts in its list.
 use Rattle.std.specs.Prelude.{ℕ, ◌+◌, suc, max, List, length, Option, Some, None}
-use Rattle.csl_elements.specs.Date.{date_in_form}
+use Rattle.csl_elements.specs.Lookup.{date_in_form}
 use Rattle.csl_elements.specs.declared.date.Date.{Date}
 use Rattle.csl_elements.specs.declared.date.DateForm.{DateForm}
 use Rattle.csl_elements.specs.declared.locale.Locale.{Locale}

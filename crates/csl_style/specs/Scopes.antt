@@ -8,7 +8,7 @@ use Rattle.csl_elements.specs.declared.names.options.InheritableNameOptions.{Inh
 use Rattle.csl_style.specs.declared.style.settings.Scope.{Scope}
 use Rattle.csl_style.specs.declared.style.settings.Scope.TheVariants.{Citation, Bibliography}
 use Rattle.csl_style.specs.declared.style.settings.StyleSettings.{StyleSettings}
-use Rattle.csl_elements.specs.NameOptions.{PartialOptions, partial_options, apply_options}
+use Rattle.csl_elements.specs.NamesOptions.{PartialOptions, partial_options, apply_options}
 
 -- the options of names that the style sets for the citation, or for the bibliography
 abbrev pub scope_names : Scope → StyleSettings → InheritableNameOptions

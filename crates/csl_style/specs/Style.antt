@@ -1,8 +1,9 @@
 -- A style (CSL 1.0.2, Style Structure) has settings, macros, a layout for citations, perhaps one
 -- for the bibliography, and locales. It is refused for the first macro of its list that leads back
 -- to itself. If there is none, it is refused for a Chicago page format (`IsRefusal`). A `Memory`
--- error may come instead of either.
-use Rattle.std.specs.Prelude.{◌≡◌, ℕ, ◌++◌, Bool, true, false, List, Option, Some, None, ⊤, string_bytes, codes}
+-- error may come instead of either. A macro that an earlier one of the same name hides does not
+-- count (CSL 1.0.2, Macro).
+use Rattle.std.specs.Prelude.{◌≡◌, ℕ, ◌++◌, Bool, true, false, List, Option, Some, None, ⊤, string_bytes, codes, ◌<◌}
 use Rattle.csl_elements.specs.declared.element.CslMacro.{CslMacro}
 use Rattle.csl_elements.specs.declared.element.Layout.{Layout}
 use Rattle.csl_elements.specs.declared.locale.Locale.{Locale}
@@ -14,9 +15,22 @@ use Rattle.csl_style.specs.declared.style.settings.StyleSettings.{StyleSettings}
 use Rattle.csl_style.specs.declared.style.settings.DemoteNonDroppingParticle.TheVariants.{DisplayAndSort}
 use Rattle.csl_style.specs.declared.style.error.StyleError.{StyleError}
 use Rattle.csl_style.specs.declared.style.error.StyleError.TheVariants.{Memory, CyclicMacro, ChicagoPageFormat}
-pub use Rattle.csl_elements.specs.NameOptions.{partial_options, no_options}
+pub use Rattle.csl_elements.specs.NamesOptions.{partial_options, no_options}
 use Rattle.csl_elements.specs.View.{Definition}
-use Rattle.csl_style.specs.Cyclic.{IsFirstCyclic, HasNoCycle}
+use Rattle.csl_style.specs.Expansion.{macro_index}
+use Rattle.csl_style.specs.MacroCalls.{LeadsTo}
+
+-- The macro of the name leads back to itself, and no earlier macro of the list does. A hidden macro
+-- has no place here.
+pub record IsFirstCyclic (ds : List Definition) (name : List ℕ) : Type 0 where
+  pub index : ℕ
+  pub here : macro_index name ds ≡ Some index
+  pub returns : LeadsTo ds name name
+  pub earlier : (other : List ℕ) (k : ℕ) → macro_index other ds ≡ Some k → k < index → LeadsTo ds other other → ⊥
+
+-- no macro leads back to itself
+abbrev pub HasNoCycle : List Definition → Type 0
+HasNoCycle ds = (name : List ℕ) → LeadsTo ds name name → ⊥
 
 pub record StyleParts : Type 0 where
   pub settings : StyleSettings

@@ -13,7 +13,7 @@ use Rattle.csl_elements.specs.View.{Definition, view_layout}
 use Rattle.csl_elements.specs.Node.{Target, of_variable, of_term, of_value, ExpandedNode, expanded_text, expanded_macro, unknown_macro, expanded_number, expanded_label, expanded_date, expanded_names, shorthand, expanded_choose, expanded_group, ExpandedNodes, no_expanded_nodes, expanded_node, ExpandedBranches, no_expanded_branches, expanded_otherwise, expanded_branch, ExpandedSubstitutes, no_expanded_substitutes, expanded_substitute, ExpandedLayout, expand_nodes, expand_layout}
 use Rattle.csl_style.specs.Expanded.{macro_env}
 use Rattle.csl_style.specs.Expansion.{macro_expansion}
-use Rattle.csl_style.specs.Calls.{children_at}
+use Rattle.csl_style.specs.CallGraph.{children_at}
 
 -- the layout of a scope, with all macros expanded
 abbrev pub reached_layout : Scope → StyleParts → Option ExpandedLayout

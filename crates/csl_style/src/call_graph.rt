@@ -2,10 +2,10 @@
 
 ghost use Rattle.std.specs.Prelude.{◌≡◌, ◌++◌, length, IfOk, OnOk};
 ghost use Rattle.std.specs.Option.{option_to_list};
-ghost use Rattle.csl_style.specs.GraphReach.{InRange};
+ghost use Rattle.csl_style.specs.Cycles.{InRange};
 ghost use Rattle.csl_elements.specs.View.{definitions, view_nodes};
 ghost use Rattle.csl_style.specs.Expansion.{macro_index};
-ghost use Rattle.csl_style.specs.Calls.{calls_in_all, IsCallGraph, ArePlacesByName};
+ghost use Rattle.csl_style.specs.CallGraph.{calls_in_all, IsCallGraph, ArePlacesByName};
 
 use crate::all_nodes::{NodesLeft, called_name};
 use crate::places::Places;
@@ -26,7 +26,7 @@ impl<'s> Model for PlacedMacros<'s> {
     ghost use Rattle.csl_elements.specs.contracts.element.CslMacro as of_macro;
     ghost use Rattle.csl_elements.specs.declared.element.CslMacro.{CslMacro};
     ghost use Rattle.csl_elements.specs.View.{definitions};
-    ghost use Rattle.csl_style.specs.Calls.{ArePlacesByName};
+    ghost use Rattle.csl_style.specs.CallGraph.{ArePlacesByName};
 
     ghost Value = { List CslMacro };
 

@@ -2,7 +2,7 @@
 //! themselves.
 
 ghost use Rattle.std.specs.Prelude.{◌≡◌, ◌<◌, ℕ, length, IfOk, IfSome, IsTrue, None};
-ghost use Rattle.csl_style.specs.GraphReach.{InRange, IsReach, IsFirstCyclicPlace, ArePlaceRanks, ArePlaceLevels, Falls, HasRanks};
+ghost use Rattle.csl_style.specs.Cycles.{InRange, IsReach, IsFirstCyclicPlace, ArePlaceRanks, ArePlaceLevels, Falls, HasRanks};
 
 use std::alloc::{AllocError, Global};
 

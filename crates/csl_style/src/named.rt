@@ -7,7 +7,7 @@ ghost use Rattle.csl_elements.specs.Node.{expand_layout};
 ghost use Rattle.csl_elements.specs.View.{definitions, view_node, view_nodes, view_choose, view_names, view_layout};
 ghost use Rattle.csl_elements.specs.NamedSet.{empty_named_set, named_set};
 ghost use Rattle.csl_style.specs.AllNodes.{called_name};
-ghost use Rattle.csl_style.specs.Calls.{own_calls};
+ghost use Rattle.csl_style.specs.CallGraph.{own_calls};
 ghost use Rattle.csl_style.specs.Named.{the_variable, the_kind, the_name, the_date, the_number_or_page, each_of, each_if, named_in_nodes};
 ghost use Rattle.csl_style.specs.NamedWalk.{Adds, named_in_tests_of, named_itself, AreMarked, IsFirstCall};
 ghost use Rattle.csl_style.specs.Expanded.{macro_env};

@@ -1,11 +1,12 @@
 //! The places of macros by their names. The place of a macro is its index in the style's list.
+//! Definitions: specs/CallGraph.antt, specs/Expansion.antt.
 
 ghost use Rattle.std.specs.Prelude.{◌≡◌, ℕ, List, IfOk};
 ghost use Rattle.std.specs.HashMap as hash;
 ghost use Rattle.std.specs.BTreeMap as tree;
 ghost use Rattle.csl_elements.specs.View.{definitions};
 ghost use Rattle.csl_style.specs.Expansion.{macro_index};
-ghost use Rattle.csl_style.specs.Calls.{place_in, ArePlacesByName};
+ghost use Rattle.csl_style.specs.CallGraph.{place_in, ArePlacesByName};
 
 use csl_elements::CslMacro;
 use std::alloc::{AllocError, Global};

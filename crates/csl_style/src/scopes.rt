@@ -1,7 +1,7 @@
 //! The settings of a scope, and the options of a style's first locale.
 
 ghost use Rattle.std.specs.Prelude.{◌≡◌};
-ghost use Rattle.csl_elements.specs.NameOptions.{inherited_options};
+ghost use Rattle.csl_elements.specs.NamesOptions.{inherited_options};
 ghost use Rattle.csl_style.specs.Scopes.{base_options, is_punctuation_in_quote, are_day_ordinals_limited};
 
 use crate::style::{Scope, Style};

@@ -5,13 +5,12 @@ ghost use Rattle.std.specs.Prelude.{◌≡◌, false, IfOk, OnOk, IfErr, map, fi
 ghost use Rattle.csl_elements.specs.Node.{expand_nodes};
 ghost use Rattle.csl_elements.specs.View.{definitions, is_named, view_nodes};
 ghost use Rattle.csl_style.specs.Expansion.{macro_body, macro_expansion, macro_index, IsAcyclic};
-ghost use Rattle.csl_style.specs.Calls.{ArePlacesByName};
-ghost use Rattle.csl_style.specs.Cyclic.{HasNoCycle};
+ghost use Rattle.csl_style.specs.CallGraph.{ArePlacesByName};
+ghost use Rattle.csl_style.specs.Style.{HasNoCycle, style_of, layout_of, is_chicago, IsRefusal};
 ghost use Rattle.csl_elements.specs.Locale.{terms_of, ordinals_of};
 ghost use Rattle.csl_elements.specs.Term.{term_text, term_gender};
-ghost use Rattle.csl_elements.specs.Ordinal.{ordinals, long_ordinals};
-ghost use Rattle.csl_elements.specs.Date.{date_in_form};
-ghost use Rattle.csl_style.specs.Style.{style_of, layout_of, is_chicago, IsRefusal};
+ghost use Rattle.csl_elements.specs.Ordinals.{ordinals, long_ordinals};
+ghost use Rattle.csl_elements.specs.Lookup.{date_in_form};
 ghost use Rattle.csl_style.specs.YearSuffix.{is_year_suffix_implicit, reached_layout};
 
 use crate::call_graph::{PlacedMacros, call_graph};
@@ -66,7 +65,7 @@ impl Model for Style {
     ghost use Rattle.csl_elements.specs.View.{definitions};
     ghost use Rattle.csl_style.specs.Expansion.{IsAcyclic};
     ghost use Rattle.csl_style.specs.Style.{is_chicago};
-    ghost use Rattle.csl_style.specs.Calls.{ArePlacesByName};
+    ghost use Rattle.csl_style.specs.CallGraph.{ArePlacesByName};
     ghost use Rattle.csl_style.specs.TermPlaces.{ArePlacesOfTerms};
     ghost use Rattle.csl_style.specs.FirstOrdinals.{HaveSameOrdinals};
     ghost use Rattle.csl_style.specs.YearSuffix.{is_implicit_in};

@@ -5,7 +5,7 @@ ghost use Rattle.std.specs.Prelude.{◌≡◌, ◌<◌, false, length, IfSome, I
 ghost use Rattle.csl_elements.specs.Node.{expand_nodes};
 ghost use Rattle.csl_elements.specs.View.{definitions, view_node, view_nodes};
 ghost use Rattle.csl_style.specs.Expansion.{macro_expansion, IsAcyclic};
-ghost use Rattle.csl_style.specs.Calls.{children_at, ArePlacesByName};
+ghost use Rattle.csl_style.specs.CallGraph.{children_at, ArePlacesByName};
 ghost use Rattle.csl_style.specs.YearSuffix.{is_year_suffix, any_has_year_suffix, macro_has_year_suffix, is_implicit_in};
 ghost use Rattle.csl_style.specs.AllNodes.{is_suffix_text};
 
@@ -49,7 +49,7 @@ impl<'s> Model for Search<'s> {
     ghost use Rattle.csl_elements.specs.declared.element.CslMacro.{CslMacro};
     ghost use Rattle.csl_elements.specs.View.{definitions};
     ghost use Rattle.csl_style.specs.Expansion.{IsAcyclic};
-    ghost use Rattle.csl_style.specs.Calls.{ArePlacesByName};
+    ghost use Rattle.csl_style.specs.CallGraph.{ArePlacesByName};
     ghost use Rattle.csl_style.specs.YearSuffix.{AreKnown};
 
     ghost Value = { List CslMacro };

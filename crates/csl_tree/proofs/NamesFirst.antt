@@ -5,7 +5,7 @@ use Rattle.std.specs.List.{flat_map, find}
 use Rattle.std.specs.Option.{option_or}
 use Rattle.csl_tree.specs.Search.{preorder, child_preorder, is_names, elem_of, layer_elem}
 use Rattle.csl_tree.specs.Places.{children_of, layer_children, child_at, no_child}
-use Rattle.csl_tree.specs.NamesSearch.{NamesPosition, absent, here, below, find_of_child, names_find, first_found, found_or, find_from, elem_at, first_names, is_found, is_nested_path}
+use Rattle.csl_tree.specs.FindNames.{NamesPosition, absent, here, below, find_of_child, names_find, first_found, found_or, find_from, elem_at, first_names, is_found, is_nested_path}
 use Rattle.csl_tree.specs.declared.elem.ElemChild.{ElemChild}
 use Rattle.csl_tree.specs.declared.elem.ElemChild.TheOpen.{ElemChild-F, Elem-F, ElemChildren-F, Text, Elem, Markup, Link, Transparent}
 use Rattle.csl_tree.specs.declared.elem.ElemChild.TheViews.{out-ElemChild, out-roll-ElemChild, roll-ElemChild, roll-Elem, roll-ElemChildren}

@@ -4,7 +4,7 @@ use Rattle.std.specs.Prelude.{unwrap_or}
 use Rattle.std.specs.declared.vec.Vec.{Vec}
 use Rattle.std.specs.declared.alloc.Global.{Global}
 use Rattle.csl_tree.specs.Places.{children_of, layer_children, child_at, put_child, descend, get_at, put_at, no_child}
-use Rattle.csl_tree.specs.NamesSearch.{NamesPosition, absent, here, below, find_child, find_elem, find_children, find_from, first_found, found_or, names_find, find_of_child, parent_path, optional_parent_path, names_path, is_nested_path, first_index, names_below, names_index, names_items, put_names_items, is_found, is_here, any_is_here, here_index, end_of, elem_at, put_elem_at, first_names, put_first_names}
+use Rattle.csl_tree.specs.FindNames.{NamesPosition, absent, here, below, find_child, find_elem, find_children, find_from, first_found, found_or, names_find, find_of_child, parent_path, optional_parent_path, names_path, is_nested_path, first_index, names_below, names_index, names_items, put_names_items, is_found, is_here, any_is_here, here_index, end_of, elem_at, put_elem_at, first_names, put_first_names}
 use Rattle.std.specs.Vec.{with_item}
 use Rattle.csl_tree.specs.declared.elem.ElemChild.TheVariants as variants
 use Rattle.csl_tree.specs.declared.elem.ElemChild.{ElemChild}

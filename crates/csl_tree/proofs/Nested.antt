@@ -19,7 +19,7 @@ use Rattle.csl_tree.specs.Content.{IsContent}
 use Rattle.csl_tree.specs.Formatting.{same_formatting, default_formatting}
 use Rattle.csl_tree.specs.Tokens.{Token, Meta, text, solid, markup, link, transparent, elem_start, elem_end, elem_around, optional_meta, child_step, elem_step, children_step, child_tokens, elem_tokens, tokens, token_text, leaf_text}
 use Rattle.csl_tree.specs.Html.{HtmlToken, div, span, anchor, start_tag, end_tag, characters, html_of_text, html_of, html, IsNested, nothing, text_then, element_then, characters_of, html_text, IsHtmlOf}
-use Rattle.csl_tree.specs.Writing.{text_in_format}
+use Rattle.csl_tree.specs.Write.{text_in_format}
 
 -- two nested lists in a row are nested
 pub nested_append : {a : List HtmlToken} (b : List HtmlToken) → IsNested a → IsNested b → IsNested (a ++ b)

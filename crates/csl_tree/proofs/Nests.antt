@@ -10,7 +10,7 @@ use Rattle.csl_tree.specs.declared.marks.Element.TheVariants as element
 use Rattle.csl_tree.specs.Escapes.{escape, escape_all}
 use Rattle.csl_tree.specs.Html.{Tag, div, span, anchor, HtmlToken, start_tag, end_tag, characters, IsNested, nothing, text_then, element_then, characters_of, html_text, html_bytes_of, html_bytes, IsHtmlOf}
 use Rattle.csl_tree.specs.Marks.{Piece, start_piece, end_piece, byte_piece, piece_bytes, element_of, end_bytes}
-use Rattle.csl_tree.specs.Reading.{pieces_bytes, piece_text, pieces_text, element_place, within_after, within_after_all}
+use Rattle.csl_tree.specs.Read.{pieces_bytes, piece_text, pieces_text, element_place, within_after, within_after_all}
 
 -- ---- a text as pieces
 

@@ -9,7 +9,7 @@ use Rattle.csl_tree.specs.declared.marks.Element.TheVariants as element
 use Rattle.csl_tree.specs.Escapes.{escape, escape_all, is_reserved}
 use Rattle.csl_tree.specs.Html.{div, span, anchor}
 use Rattle.csl_tree.specs.Marks.{without, reference_at, byte_at, div_at, span_at, end_at, BeginsNoStart, Piece, start_piece, end_piece, byte_piece, piece_bytes, BeginsNoPiece}
-use Rattle.csl_tree.specs.Reading.{pieces_bytes, piece_text, pieces_text, within_after, within_after_all}
+use Rattle.csl_tree.specs.Read.{pieces_bytes, piece_text, pieces_text, within_after, within_after_all}
 use Rattle.csl_tree.proofs.Fronts.{without-append}
 use Rattle.csl_tree.proofs.Escaped.{byte_at-escape, same_pair, texts_tell, which, escape-plain, escape_long}
 use Rattle.csl_tree.proofs.Tags.{div_at-start, span_at-start, end_at-bytes, anchor_bytes, anchor-split}

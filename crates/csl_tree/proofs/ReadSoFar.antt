@@ -8,7 +8,7 @@ use Rattle.csl_tree.specs.declared.marks.Mark.{Mark}
 use Rattle.csl_tree.specs.declared.marks.Mark.TheVariants as marks
 use Rattle.csl_tree.specs.Html.{IsHtmlOf, IsNotHtml}
 use Rattle.csl_tree.specs.Marks.{Piece, start_piece, end_piece, byte_piece, piece_bytes, BeginsNoPiece, IsMark}
-use Rattle.csl_tree.specs.Reading.{pieces_bytes, piece_text, pieces_text, within_after, within_after_all, within_after_mark, mark_text, IsReadTo}
+use Rattle.csl_tree.specs.Read.{pieces_bytes, piece_text, pieces_text, within_after, within_after_all, within_after_mark, mark_text, IsReadTo}
 use Rattle.csl_tree.proofs.Escaped.{text_shortens}
 use Rattle.csl_tree.proofs.Pieces.{piece_tells, piece_long, pieces_tell}
 use Rattle.csl_tree.proofs.Nests.{within-of_text, bytes-of_text, text-of_text, within-append, pieces, bytes-pieces, text-pieces, nested_within, html_from_pieces}

@@ -8,7 +8,8 @@
 -- its end tag and a nested list. Bytes are HTML (`IsHtmlOf`) if they are those of a nested list.
 -- The text of HTML is the texts of that list, joined. So a span may have any declarations in this
 -- order, at most one for each attribute, or none. No other tag, attribute or reference is HTML.
--- HTML has exactly one text. For the HTML of a tree, it is the leaf text of the tree.
+-- HTML has exactly one text. For the HTML of a tree, it is the leaf text of the tree. `error_text`
+-- is the text that `Display` writes for each error of reading HTML.
 use Rattle.std.specs.Prelude.{◌≡◌, ℕ, List, [], ◌∷◌, ◌++◌, Some, None, codes, if◌then◌else◌}
 use Rattle.std.specs.List.{flat_map}
 use Rattle.csl_elements.specs.declared.formatting.Display.{Display}
@@ -27,6 +28,8 @@ use Rattle.csl_tree.specs.declared.formatting.Formatting.{Formatting}
 use Rattle.csl_tree.specs.Escapes.{escape_all}
 use Rattle.csl_tree.specs.Formatting.{same_formatting, default_formatting}
 use Rattle.csl_tree.specs.Tokens.{Token, text, solid, markup, link, transparent, elem_start, elem_end}
+use Rattle.csl_tree.specs.declared.html_error.HtmlError.{HtmlError}
+use Rattle.csl_tree.specs.declared.html_error.HtmlError.TheVariants.{Memory, NotHtml}
 
 pub data Tag : Type 0 where
   div : Display → Tag
@@ -127,3 +130,8 @@ pub record IsHtmlOf (html leaves : List ℕ) : Type 0 where
 
 abbrev pub IsNotHtml : List ℕ → Type 0
 IsNotHtml html = (leaves : List ℕ) → IsHtmlOf html leaves → ⊥
+
+-- the text that `Display` writes for each error of reading HTML
+abbrev pub error_text : HtmlError → List ℕ
+error_text Memory = codes "out of memory"
+error_text NotHtml = codes "not html"

@@ -1,4 +1,4 @@
--- The laws of trees and contents: as HTML (`Html`, `Tokens`, `Writing`), and in normal form
+-- The laws of trees and contents: as HTML (`Html`, `Tokens`, `Write`), and in normal form
 -- (`Simplify`, `Tree`). Each holds for every input, and `proofs/Theorems.antt` proves it. Clauses of
 -- `leaf_text_of_html` and `simplify_fully` follow from them.
 use Rattle.std.specs.Prelude.{◌≡◌, ◌↔◌, ℕ, true, List}
@@ -9,7 +9,7 @@ use Rattle.csl_tree.specs.Html.{IsHtmlOf}
 use Rattle.csl_tree.specs.Simplify.{has_no_empty_text, is_normal, normal_form, styled_value}
 use Rattle.csl_tree.specs.Tokens.{Token, leaf_text, tokens}
 use Rattle.csl_tree.specs.Tree.{Tree}
-use Rattle.csl_tree.specs.Writing.{text_in_format}
+use Rattle.csl_tree.specs.Write.{text_in_format}
 
 -- What a tree is written as is HTML of its leaf text.
 abbrev pub TreesAreHtmlOfTheirText : Type 0

@@ -4,11 +4,10 @@ pub mod Formatting
 pub mod Tokens
 pub mod Escapes
 pub mod Html
-pub mod HtmlError
 pub mod Links
 pub mod Marks
-pub mod Reading
-pub mod Writing
+pub mod Read
+pub mod Write
 pub mod Content
 pub mod Flat
 pub mod FlatChildren
@@ -16,6 +15,6 @@ pub mod Stack
 pub mod Tree
 pub mod Simplify
 pub mod Places
-pub mod NamesSearch
+pub mod FindNames
 pub mod Search
 pub mod Laws

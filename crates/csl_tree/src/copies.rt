@@ -1,4 +1,5 @@
 //! Copies of a tree and of its parts. A copy equals its original.
+//! Definitions: specs/Tokens.antt.
 
 ghost use Rattle.std.specs.Prelude.{◌≡◌, map, IfOk};
 ghost use Rattle.lit_model.specs.Person.{person_view};

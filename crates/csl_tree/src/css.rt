@@ -1,4 +1,5 @@
 //! Strings of HTML: the CSS declaration of each attribute, and the start tag of a `div`.
+//! Definitions: specs/Html.antt.
 
 ghost use Rattle.std.specs.Prelude.{◌≡◌};
 ghost use Rattle.csl_tree.specs.Html.{style_css, variant_css, weight_css, decoration_css, align_css, div_start};

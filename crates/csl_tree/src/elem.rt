@@ -1,5 +1,6 @@
 //! The types of the output tree. Their methods return whether a part is empty or has content, and
 //! the length of its text.
+//! Definitions: specs/Tokens.antt.
 
 ghost use Rattle.std.specs.Prelude.{◌≡◌, ◌↔◌, [], length, min, None, IsTrue};
 ghost use Rattle.csl_tree.specs.declared.elem.Elem.{out-Elem};

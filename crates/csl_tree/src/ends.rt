@@ -1,4 +1,5 @@
 //! Whether children exist, whether they have text, and the last character of their leaf text.
+//! Definitions: specs/Tokens.antt.
 
 ghost use Rattle.std.specs.Prelude.{◌≡◌};
 ghost use Rattle.csl_tree.specs.Tokens.{tokens, elem_tokens, child_tokens, leaf_text, has_text, last_char, ends_in_white_space, has_children};

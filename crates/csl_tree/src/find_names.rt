@@ -5,7 +5,7 @@ ghost use Rattle.std.specs.Borrow.{sem};
 ghost use Rattle.std.specs.List.{find};
 ghost use Rattle.csl_tree.specs.Search.{preorder, is_names, elem_of};
 ghost use Rattle.csl_tree.specs.Places.{child_at};
-ghost use Rattle.csl_tree.specs.NamesSearch.{is_here, is_found, find_of_child, find_at, found_or, names_find, names_below, names_index, names_items, lends_names_items, lends_names_child, lends_elem, lends_that_names, lends_names, any_is_here, here_index, first_names};
+ghost use Rattle.csl_tree.specs.FindNames.{is_here, is_found, find_of_child, find_at, found_or, names_find, names_below, names_index, names_items, lends_names_items, lends_names_child, lends_elem, lends_that_names, lends_names, any_is_here, here_index, first_names};
 
 use crate::elem::{Elem, ElemChild, ElemChildren, ElemMeta};
 

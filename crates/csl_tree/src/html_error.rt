@@ -1,7 +1,8 @@
 //! The error of reading a text as HTML.
+//! Definitions: specs/Html.antt.
 
 ghost use Rattle.std.specs.Prelude.{◌≡◌, Some};
-ghost use Rattle.csl_tree.specs.HtmlError.{error_text};
+ghost use Rattle.csl_tree.specs.Html.{error_text};
 ghost use Rattle.csl_tree.specs.declared.html_error.HtmlError.TheVariants as errors;
 
 use lit_model::Memory as OutOfMemory;

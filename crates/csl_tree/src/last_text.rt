@@ -1,4 +1,5 @@
 //! Places in a tree, as mutable references. Nothing else in the tree changes through them.
+//! Definitions: specs/Places.antt, specs/Search.antt.
 
 ghost use Rattle.std.specs.Prelude.{◌≡◌, ◌<◌, Some, IsTrue, is_some, option_map, vec_len};
 ghost use Rattle.std.specs.Borrow.{sem};

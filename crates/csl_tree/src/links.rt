@@ -6,7 +6,7 @@ ghost use Rattle.std.specs.List.{list_all};
 ghost use Rattle.std.specs.List.Retain.{IsFiltered};
 ghost use Rattle.csl_tree.specs.Links.{KeepsInTurn, addresses, kept_links, child_without_link};
 ghost use Rattle.csl_tree.specs.Tokens.{child_tokens, leaf_text, tokens};
-ghost use Rattle.csl_tree.specs.Writing.{plain_text};
+ghost use Rattle.csl_tree.specs.Write.{plain_text};
 
 use crate::elem::{ElemChild, ElemChildren};
 use crate::formatting::Formatting;

@@ -2,10 +2,10 @@
 
 ghost use Rattle.std.specs.Prelude.{◌≡◌, ◌⊎◌, ◌↔◌, ◌++◌, ℕ, List, IsTrue, OnOk, Err, IfOk, IsErrOf, MatchResult, string_bytes, reverse, if◌then◌else◌, Some, None};
 ghost use Rattle.csl_tree.specs.Html.{IsHtmlOf, IsNotHtml};
-ghost use Rattle.csl_tree.specs.Reading.{HasEnded, within_after_mark, mark_text};
+ghost use Rattle.csl_tree.specs.Read.{HasEnded, within_after_mark, mark_text};
 ghost use Rattle.csl_tree.specs.Tokens.{Token, tokens, leaf_text};
 ghost use Rattle.csl_tree.specs.Content.{IsContent};
-ghost use Rattle.csl_tree.specs.Writing.{text_in_format};
+ghost use Rattle.csl_tree.specs.Write.{text_in_format};
 ghost use Rattle.csl_tree.specs.declared.elem.ElemChildren.{ElemChildren};
 ghost use Rattle.csl_tree.specs.declared.elem.BufWriteFormat.TheVariants.{Html};
 

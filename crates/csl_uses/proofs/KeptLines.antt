@@ -13,7 +13,7 @@ use Rattle.csl.specs.Style.View.{view_layout}
 use Rattle.csl.specs.Style.declared.element.Layout.{Layout}
 use Rattle.csl.specs.Style.declared.named.Named.{Named}
 use Rattle.csl.specs.Style.declared.style.settings.Scope.TheVariants.{Bibliography}
-use Rattle.csl.specs.Tree.Writing.{text_in_format}
+use Rattle.csl.specs.Tree.Write.{text_in_format}
 use Rattle.csl.specs.Tree.declared.elem.BufWriteFormat.TheVariants.{Html}
 use Rattle.csl.specs.Entry.Alike.{SameNamedAnswers}
 use Rattle.csl.specs.Entry.Answers.{Answers}
@@ -21,7 +21,7 @@ use Rattle.csl.specs.Entry.Cite.{first_cite, no_disambiguation}
 use Rattle.csl.specs.Entry.Snapshot.{kept_in, snapshot_answers}
 use Rattle.csl.specs.Entry.contracts.snapshot.SnapshotPartialEq.TheImpl.{eq-value}
 use Rattle.csl.specs.Entry.declared.snapshot.Snapshot.{Snapshot}
-use Rattle.csl.specs.Render.CiteContent.{whole_cite}
+use Rattle.csl.specs.Render.Cites.{whole_cite}
 use Rattle.csl.proofs.Snapshots.{answers_decide, snapshots_decide}
 use Rattle.csl_uses.specs.List.{line_html, NamedByBibliography, AreLines}
 

@@ -2,7 +2,6 @@
 pub mod Book
 pub mod Cite
 pub mod Film
-pub mod InText
 pub mod Links
 pub mod List
 pub mod Page

@@ -12,14 +12,14 @@ use Rattle.csl.specs.Style.Style.{StyleParts}
 use Rattle.csl.specs.Style.View.{view_layout}
 use Rattle.csl.specs.Style.declared.named.Named.{Named}
 use Rattle.csl.specs.Style.declared.style.settings.Scope.TheVariants.{Bibliography}
-use Rattle.csl.specs.Tree.Writing.{text_in_format}
+use Rattle.csl.specs.Tree.Write.{text_in_format}
 use Rattle.csl.specs.Tree.declared.elem.BufWriteFormat.TheVariants.{Html}
 use Rattle.csl.specs.Entry.Answers.{Answers}
 use Rattle.csl.specs.Entry.Cite.{first_cite, no_disambiguation}
 use Rattle.csl.specs.Entry.Snapshot.{snapshot_answers}
 use Rattle.csl.specs.Entry.contracts.snapshot.SnapshotPartialEq.TheImpl.{eq-value}
 use Rattle.csl.specs.Entry.declared.snapshot.Snapshot.{Snapshot}
-use Rattle.csl.specs.Render.CiteContent.{whole_cite}
+use Rattle.csl.specs.Render.Cites.{whole_cite}
 
 -- the line of an entry with these answers, empty if the style has no bibliography
 abbrev pub line_html : StyleParts → Answers → List ℕ

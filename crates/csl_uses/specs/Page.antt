@@ -15,7 +15,7 @@ use Rattle.csl.specs.Style.Style.{StyleParts}
 use Rattle.csl.specs.Tree.Tokens.{Token}
 use Rattle.csl.specs.Entry.Answers.{Answers}
 use Rattle.csl.specs.Entry.Cite.{CiteState, first_cite, no_disambiguation}
-use Rattle.csl.specs.Render.CiteContent.{whole_cite}
+use Rattle.csl.specs.Render.Cites.{whole_cite}
 use Rattle.csl_uses.specs.declared.page.WebPage.{WebPage}
 
 abbrev pub standard_of : WebPage → StandardVariable → Option (List Chunk)

@@ -5,7 +5,7 @@ ghost use Rattle.std.specs.Prelude.{◌≡◌, IfOk, option_map};
 ghost use Rattle.csl.specs.Style.declared.style.settings.Scope.TheVariants as scopes;
 ghost use Rattle.csl.specs.Tree.Tokens.{tokens};
 ghost use Rattle.csl.specs.Entry.Cite.{first_cite, no_disambiguation};
-ghost use Rattle.csl.specs.Render.CiteContent.{cite_content, whole_cite};
+ghost use Rattle.csl.specs.Render.Cites.{cite_content, whole_cite};
 ghost use Rattle.csl_uses.specs.Cite.{cite_of_page};
 
 use csl::entry::{LocatorPayload, SpecificLocator, SpeculativeCiteProperties};

@@ -1,7 +1,8 @@
 //! Cites in the running text, as `Kwan (2014)`, and works in the order of their names and years.
+//! Definitions: specs/Cite.antt.
 
 ghost use Rattle.std.specs.Prelude.{◌≡◌, IfOk, string_bytes};
-ghost use Rattle.csl_uses.specs.InText.{in_text, part_of_cite};
+ghost use Rattle.csl_uses.specs.Cite.{in_text, part_of_cite};
 
 use csl::literature::Entry;
 use csl::style::{

@@ -1,4 +1,5 @@
 //! The words that a style asks of its locales and does not get.
+//! Definitions: crates/csl_style/specs/MissingTerm.antt, crates/csl_elements/specs/TermNames.antt.
 
 ghost use Rattle.std.specs.Prelude.{◌≡◌, option_map, option_and_then};
 ghost use Rattle.csl.specs.Style.MissingTerm.{missing_term};

@@ -1,11 +1,12 @@
 //! Two persons with one family name. The cites of their works are disambiguated by given names.
+//! Definitions: crates/csl_render/specs/Cites.antt, crates/csl_entry/specs/Cite.antt.
 
 ghost use Rattle.std.specs.Prelude.{◌≡◌, IfOk, string_bytes};
 ghost use Rattle.csl.specs.Style.declared.style.settings.Scope.TheVariants as scopes;
 ghost use Rattle.csl.specs.Tree.declared.elem.BufWriteFormat.TheVariants as formats;
-ghost use Rattle.csl.specs.Tree.Writing.{text_in_format};
+ghost use Rattle.csl.specs.Tree.Write.{text_in_format};
 ghost use Rattle.csl.specs.Entry.Cite.{first_cite, disambiguation_of};
-ghost use Rattle.csl.specs.Render.CiteContent.{whole_cite};
+ghost use Rattle.csl.specs.Render.Cites.{whole_cite};
 
 use csl::literature::{self, Entry, EntryType, Person};
 use csl::style::{

@@ -1,4 +1,5 @@
 //! Two entries of any two types, and whether they are alike for a style.
+//! Definitions: crates/csl_render/specs/Pair.antt, crates/csl_entry/specs/Alike.antt.
 
 ghost use Rattle.std.specs.Prelude.{◌≡◌, true, IfOk, string_bytes};
 ghost use Rattle.std.specs.Bool.{Decides};
@@ -8,8 +9,8 @@ ghost use Rattle.csl.specs.Style.Expanded.{macro_env};
 ghost use Rattle.csl.specs.Style.View.{view_layout};
 ghost use Rattle.csl.specs.Tree.Tokens.{tokens};
 ghost use Rattle.csl.specs.Entry.Alike.{SameNamedAnswers};
-ghost use Rattle.csl.specs.Render.CiteContent.{cite_content};
-ghost use Rattle.csl.specs.Render.PairOutput.{PrintsSame};
+ghost use Rattle.csl.specs.Render.Cites.{cite_content};
+ghost use Rattle.csl.specs.Render.Pair.{PrintsSame};
 
 use csl::literature::{Entry, EntryType, Person};
 use csl::style::{Formatting, Layout, StandardVariable, Style, StyleSettings, Text};

@@ -7,7 +7,7 @@ use Rattle.std.proofs.lemmas.List.{append-nil}
 use Rattle.lit_model.specs.declared.numeric.NumericDelimiter.{NumericDelimiter}
 use Rattle.lit_model.specs.declared.numeric.NumericDelimiter.TheVariants.{Comma, Ampersand, Hyphen}
 use Rattle.lit_model.specs.Numeric.{ValueView, one, several, NumericView, AllChars, IsBlank, is_affix, is_delimiter, delimiter_char, SpellsInteger, SpellsIntegers, SpellsValue, SpellsAffix, Spells}
-use Rattle.lit_model.specs.NumericReading.{after_longest_prefix, integer_from, integer_at, delimiter_of, delimiter_at, integers_at, value_at, text_from, affix_from, is_blank, numeric_from}
+use Rattle.lit_model.specs.NumericParse.{after_longest_prefix, integer_from, integer_at, delimiter_of, delimiter_at, integers_at, value_at, text_from, affix_from, is_blank, numeric_from}
 use Rattle.lit_model.proofs.Classes.{excluded, affix_is_other, digit_is_no_space, digit_is_no_delimiter, delimiter_is_no_space}
 use Rattle.lit_model.proofs.Pieces.{Stops, front_is, after_is, stops_by, stops_first, count_none, count_append, count_yes}
 use Rattle.lit_model.proofs.Sound.{encodes_some}

@@ -1,7 +1,7 @@
 -- The longest front of a text whose characters pass a test.
 use Rattle.std.proofs.Common.{◌≡◌, ℕ, ◌+◌, ◌-◌, ◌≤◌, Bool, true, false, List, [], ◌∷◌, ◌++◌, length, take, refl, sym, ap, ◌∙◌, append_assoc, arith}
 use Rattle.std.proofs.lemmas.List.{take_at, length-append}
-use Rattle.lit_model.specs.NumericReading.{longest_prefix, after_longest_prefix}
+use Rattle.lit_model.specs.NumericParse.{longest_prefix, after_longest_prefix}
 
 -- the text before the rest grows by the piece that is cut from the rest
 pub take_grown : (text rest next e : List ℕ) → length rest ≤ length text → text ≡ take (length text - length rest) text ++ rest → rest ≡ e ++ next → take (length text - length next) text ≡ take (length text - length rest) text ++ e

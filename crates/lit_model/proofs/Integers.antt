@@ -9,7 +9,7 @@ use Rattle.std.proofs.lemmas.Str.{encodes-IsAscii}
 use Rattle.std.proofs.lemmas.Fmt.{IsAscii-from_digits}
 use Rattle.std.proofs.lemmas.Str.Parse.{IsDigitsTest, IsNumeralModel, numerals_by_value, parse_signed_digits}
 use Rattle.lit_model.specs.Numeric.{AllChars}
-use Rattle.lit_model.specs.NumericReading.{longest_prefix, integer_from}
+use Rattle.lit_model.specs.NumericParse.{longest_prefix, integer_from}
 
 only_front_case : (p : ℕ → Bool) (c : ℕ) (cs : List ℕ) (b : Bool) → p c ≡ b → AllChars p (longest_prefix p cs) → AllChars p (cond b (c ∷ longest_prefix p cs) [])
 only_front_case p c cs true h rest = (h, rest)

@@ -1,7 +1,7 @@
 -- Reading numbers in a loop, one number at a time.
 use Rattle.std.proofs.Common.{◌≡◌, ℕ, zero, suc, ◌-◌, ◌+◌, ◌≤◌, ◌<◌, List, [], ◌∷◌, ◌++◌, Option, Some, None, option_map, ℤ, refl, sym, ap, append_assoc, arith}
 use Rattle.lit_model.specs.declared.numeric.NumericDelimiter.{NumericDelimiter}
-use Rattle.lit_model.specs.NumericReading.{◌>>=◌, rest_of, integer_at, delimiter_at, integers_at}
+use Rattle.lit_model.specs.NumericParse.{◌>>=◌, rest_of, integer_at, delimiter_at, integers_at}
 
 -- a number with its delimiter, then the remaining numbers; and the last number alone
 pub integers_at-more : (k : ℕ) (cs a b : List ℕ) (n : ℤ) (d : NumericDelimiter) → integer_at cs ≡ Some (n, a) → delimiter_at a ≡ Some (d, b) → integers_at (suc k) cs ≡ integers_at k b >>= λ more. Some ((n, Some d) ∷ more.0, more.1)

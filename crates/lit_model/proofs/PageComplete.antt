@@ -3,9 +3,9 @@ use Rattle.std.proofs.Common.{◌≡◌, ℕ, suc, ◌+◌, Bool, true, false, L
 use Rattle.std.specs.Char.{is_ascii_digit, is_whitespace}
 use Rattle.std.proofs.lemmas.List.{append-nil}
 use Rattle.lit_model.specs.Numeric.{ValueView, NumericView, one, IsBlank}
-use Rattle.lit_model.specs.NumericReading.{after_longest_prefix, affix_from}
+use Rattle.lit_model.specs.NumericParse.{after_longest_prefix, affix_from}
 use Rattle.lit_model.specs.Page.{PartView, ampersand, comma, escaped, single, range, is_page_affix, is_range_mark, is_separator, SpellsPage, SpellsItem, SpellsSeparator, SpellsParts, SpellsPages}
-use Rattle.lit_model.specs.PageReading.{page_at, mark_first, mark_at, separator_of, separator_at, item_from, item_at, parts_at, pages_from}
+use Rattle.lit_model.specs.PageParse.{page_at, mark_first, mark_at, separator_of, separator_at, item_from, item_at, parts_at, pages_from}
 use Rattle.lit_model.proofs.Classes.{digit_is_no_space}
 use Rattle.lit_model.proofs.PageClasses.{page_affix_is_other, mark_is_no_digit, mark_is_no_space, mark_is_no_separator, mark_is_no_affix, separator_is_no_digit, separator_is_no_space, separator_is_no_mark, separator_is_no_affix, digit_is_no_page_affix, digit_is_no_separator, space_is_no_page_affix, space_is_no_separator}
 use Rattle.lit_model.proofs.Pieces.{Stops, front_is, after_is, stops_by, stops_first, count_none, count_append, count_yes}

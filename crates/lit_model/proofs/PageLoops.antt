@@ -1,8 +1,8 @@
 -- Reading items in a loop, one item at a time.
 use Rattle.std.proofs.Common.{◌≡◌, ℕ, zero, suc, ◌-◌, ◌+◌, ◌≤◌, ◌<◌, List, [], ◌∷◌, ◌++◌, Option, Some, None, option_map, refl, sym, ap, ◌∙◌, append_assoc, arith}
-use Rattle.lit_model.specs.NumericReading.{◌>>=◌, rest_of}
+use Rattle.lit_model.specs.NumericParse.{◌>>=◌, rest_of}
 use Rattle.lit_model.specs.Page.{PartView}
-use Rattle.lit_model.specs.PageReading.{item_at, separator_at, parts_at}
+use Rattle.lit_model.specs.PageParse.{item_at, separator_at, parts_at}
 
 abbrev pub Parts : Type 0
 Parts = List PartView

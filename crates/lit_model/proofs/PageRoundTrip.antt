@@ -6,9 +6,9 @@ use Rattle.std.specs.Str.{all_scalars}
 use Rattle.std.proofs.lemmas.List.{append-nil}
 use Rattle.std.proofs.lemmas.Str.{chars-append, chars-IsAscii, IsUtf8-from_ascii, IsUtf8-append}
 use Rattle.lit_model.specs.Numeric.{ValueView, one, several, NumericView, IsBlank, IsWritableInteger}
-use Rattle.lit_model.specs.NumericText.{value_text, numeric_text}
+use Rattle.lit_model.specs.NumericWrite.{value_text, numeric_text}
 use Rattle.lit_model.specs.Page.{PartView, ampersand, comma, escaped, single, range, is_page_affix, SpellsPage, SpellsItem, SpellsSeparator, SpellsParts, SpellsPages, IsOneWritable, IsWritablePage, IsWritableItem, IsSeparator, AreWritable}
-use Rattle.lit_model.specs.PageText.{part_text, pages_text}
+use Rattle.lit_model.specs.PageWrite.{part_text, pages_text}
 use Rattle.lit_model.proofs.RoundTrip.{integer_spelled, integer_ascii, affix_utf8, affix_spelled, ascii_cons, ascii_nil}
 use Rattle.lit_model.proofs.Writable.{integer_writable, scalars_parts, affix_writable}
 

@@ -5,9 +5,9 @@ use Rattle.std.specs.Char.{is_ascii_digit, is_whitespace}
 use Rattle.std.proofs.lemmas.Option.{cond_some}
 use Rattle.std.proofs.lemmas.Bool.{eqb-true}
 use Rattle.lit_model.specs.Numeric.{NumericView, one, IsBlank}
-use Rattle.lit_model.specs.NumericReading.{◌>>=◌, longest_prefix, after_longest_prefix, integer_at, affix_from, is_blank}
+use Rattle.lit_model.specs.NumericParse.{◌>>=◌, longest_prefix, after_longest_prefix, integer_at, affix_from, is_blank}
 use Rattle.lit_model.specs.Page.{PartView, ampersand, comma, single, range, is_page_affix, is_range_mark, is_separator, SpellsPage, SpellsItem, SpellsSeparator, SpellsParts, SpellsPages}
-use Rattle.lit_model.specs.PageReading.{page_at, mark_first, mark_at, separator_of, separator_first, separator_at, item_from, item_at, parts_at, pages_from}
+use Rattle.lit_model.specs.PageParse.{page_at, mark_first, mark_at, separator_of, separator_first, separator_at, item_from, item_at, parts_at, pages_from}
 use Rattle.lit_model.proofs.Integers.{Only-front}
 use Rattle.lit_model.proofs.Pieces.{bind_some, some_is, chosen, front_after}
 use Rattle.lit_model.proofs.Sound.{integer_sound, affix_sound, blank_is}

@@ -4,7 +4,7 @@ use Rattle.std.proofs.lemmas.List.{take_more, append-nil, map_push}
 use Rattle.std.proofs.lemmas.List.Concat.{flat_map-append}
 use Rattle.lit_model.specs.declared.page.PageRangesPart.{PageRangesPart}
 use Rattle.lit_model.specs.Page.{part_view, parts_view}
-use Rattle.lit_model.specs.PageText.{part_text, pages_text}
+use Rattle.lit_model.specs.PageWrite.{part_text, pages_text}
 
 -- one more part adds its text
 pub pages_text-more : (xs : List PageRangesPart) (i : ℕ) (x : PageRangesPart) → i < length xs → x ≡ get_or xs i x

@@ -3,7 +3,7 @@ use Rattle.std.proofs.Common.{◌≡◌, ℕ, true, List, Option, Some, None, Re
 use Rattle.std.specs.Prelude.{IfOk}
 use Rattle.lit_model.specs.declared.numeric.error.NumericError.{NumericError}
 use Rattle.lit_model.specs.declared.numeric.error.NumericError.TheVariants as errors
-use Rattle.lit_model.specs.PageReading.{pages_from}
+use Rattle.lit_model.specs.PageParse.{pages_from}
 use Rattle.std.specs.Str.{all_scalars}
 use Rattle.lit_model.proofs.PageRoundTrip.{pages_writable}
 use Rattle.lit_model.specs.Page.{AreWritable, PartView, SpellsPages}

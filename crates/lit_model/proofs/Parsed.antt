@@ -3,7 +3,7 @@ use Rattle.std.proofs.Common.{◌≡◌, ◌↔◌, ℕ, true, List, Option, Som
 use Rattle.std.specs.Prelude.{IfOk}
 use Rattle.lit_model.specs.declared.numeric.error.NumericError.{NumericError}
 use Rattle.lit_model.specs.declared.numeric.error.NumericError.TheVariants as errors
-use Rattle.lit_model.specs.NumericReading.{numeric_from}
+use Rattle.lit_model.specs.NumericParse.{numeric_from}
 use Rattle.std.specs.Str.{all_scalars}
 use Rattle.lit_model.proofs.Writable.{numeric_writable}
 use Rattle.lit_model.specs.Numeric.{IsWritable, NumericView, Spells}

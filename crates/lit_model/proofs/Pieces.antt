@@ -3,7 +3,7 @@ use Rattle.std.proofs.Common.{◌≡◌, ℕ, suc, ◌+◌, ◌<◌, Bool, true,
 use Rattle.std.specs.Prelude.{⊤, ◌⊎◌}
 use Rattle.std.proofs.lemmas.List.Sums.{sum_by-append}
 use Rattle.lit_model.specs.Numeric.{AllChars}
-use Rattle.lit_model.specs.NumericReading.{◌>>=◌, longest_prefix, after_longest_prefix}
+use Rattle.lit_model.specs.NumericParse.{◌>>=◌, longest_prefix, after_longest_prefix}
 
 -- if a bind returns a value, so does its first step
 pub bind_some : {A B : Type 0} (o : Option A) (f : A → Option B) (y : B) → (o >>= f) ≡ Some y → (x : A) × (o ≡ Some x) × (f x ≡ Some y)

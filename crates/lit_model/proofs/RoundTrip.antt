@@ -9,7 +9,7 @@ use Rattle.std.proofs.lemmas.Str.{chars-append, chars-nil, chars-IsAscii, encode
 use Rattle.lit_model.specs.declared.numeric.NumericDelimiter.{NumericDelimiter}
 use Rattle.lit_model.specs.declared.numeric.NumericDelimiter.TheVariants.{Comma, Ampersand, Hyphen}
 use Rattle.lit_model.specs.Numeric.{ValueView, one, several, NumericView, IsBlank, is_affix, delimiter_char, SpellsInteger, SpellsIntegers, SpellsValue, SpellsAffix, Spells, IsWritableInteger, AreWritableIntegers, IsWritableValue, IsWritableAffix, IsWritable}
-use Rattle.lit_model.specs.NumericText.{delimiter_text, numbers_text, value_text, numeric_text}
+use Rattle.lit_model.specs.NumericWrite.{delimiter_text, numbers_text, value_text, numeric_text}
 use Rattle.lit_model.proofs.Integers.{digits_model}
 
 abbrev pub Numbers : Type 0

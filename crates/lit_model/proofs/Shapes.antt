@@ -4,7 +4,7 @@ use Rattle.std.specs.Char.{is_whitespace}
 use Rattle.lit_model.specs.declared.numeric.parse.Shape.{Shape}
 use Rattle.lit_model.specs.Parsing.{IsShapeOf}
 use Rattle.lit_model.specs.Numeric.{ValueView, one, several, is_affix, is_delimiter}
-use Rattle.lit_model.specs.NumericReading.{◌>>=◌, read_of, rest_of, longest_prefix, after_longest_prefix, integer_at, integers_at, value_at, affix_from, is_blank, numeric_from}
+use Rattle.lit_model.specs.NumericParse.{◌>>=◌, read_of, rest_of, longest_prefix, after_longest_prefix, integer_at, integers_at, value_at, affix_from, is_blank, numeric_from}
 
 rest_of_bind : {A B : Type 0} (o : Option (A × List ℕ)) (f : A → B) → rest_of (o >>= λ n. Some (f n.0, n.1)) ≡ rest_of o
 rest_of_bind None f = refl

@@ -10,7 +10,7 @@ use Rattle.std.proofs.lemmas.List.{append-nil, nil_from_length}
 use Rattle.lit_model.specs.declared.numeric.NumericDelimiter.{NumericDelimiter}
 use Rattle.lit_model.specs.declared.numeric.NumericDelimiter.TheVariants.{Comma, Ampersand, Hyphen}
 use Rattle.lit_model.specs.Numeric.{ValueView, one, several, NumericView, AllChars, IsBlank, is_affix, is_delimiter, delimiter_char, SpellsInteger, SpellsIntegers, SpellsValue, SpellsAffix, Spells}
-use Rattle.lit_model.specs.NumericReading.{◌>>=◌, longest_prefix, after_longest_prefix, integer_from, integer_at, delimiter_of, delimiter_first, delimiter_at, integers_at, value_at, text_from, affix_from, is_blank, numeric_from}
+use Rattle.lit_model.specs.NumericParse.{◌>>=◌, longest_prefix, after_longest_prefix, integer_from, integer_at, delimiter_of, delimiter_first, delimiter_at, integers_at, value_at, text_from, affix_from, is_blank, numeric_from}
 use Rattle.lit_model.proofs.Integers.{Only-front}
 use Rattle.lit_model.proofs.Pieces.{bind_some, some_is, chosen, front_after}
 

@@ -3,9 +3,9 @@ use Rattle.std.proofs.Common.{◌≡◌, ◌↔◌, ℕ, Bool, List, Option, Som
 use Rattle.std.specs.Prelude.{MatchOption, is_some}
 use Rattle.std.proofs.lemmas.Bool.{false≢true}
 use Rattle.lit_model.specs.declared.numeric.parse.Shape.{Shape}
-use Rattle.lit_model.specs.NumericReading.{numeric_from}
+use Rattle.lit_model.specs.NumericParse.{numeric_from}
 use Rattle.lit_model.specs.Parsing.{IsShapeOf}
-use Rattle.lit_model.specs.Spelled.{IsSpelled}
+use Rattle.lit_model.specs.Numeric.{IsSpelled}
 use Rattle.lit_model.proofs.Sound.{numeric_sound}
 use Rattle.lit_model.proofs.Complete.{numeric_complete}
 

@@ -3,7 +3,7 @@ use Rattle.std.proofs.Common.{◌≡◌, ℕ, ◌+◌, ◌<◌, List, [], ◌∷
 use Rattle.std.proofs.lemmas.List.{take_more, append-nil}
 use Rattle.std.proofs.lemmas.List.Concat.{flat_map-append}
 use Rattle.lit_model.specs.declared.numeric.NumericDelimiter.{NumericDelimiter}
-use Rattle.lit_model.specs.NumericText.{delimiter_text, numbers_text}
+use Rattle.lit_model.specs.NumericWrite.{delimiter_text, numbers_text}
 
 abbrev pub Numbers : Type 0
 Numbers = List (ℤ × Option NumericDelimiter)

@@ -1,8 +1,8 @@
 -- The laws of numbers and pages as texts, proved for every input.
 use Rattle.std.proofs.Common.{chars}
 use Rattle.lit_model.specs.Laws.{NumbersAreReadAsSpelled, NumbersAreUnique, SpelledNumbersAreWritable, WrittenNumbersReadBack, PagesAreReadAsSpelled, PagesAreUnique, SpelledPagesAreWritable, WrittenPagesReadBack}
-use Rattle.lit_model.specs.NumericText.{numeric_text}
-use Rattle.lit_model.specs.PageText.{pages_text}
+use Rattle.lit_model.specs.NumericWrite.{numeric_text}
+use Rattle.lit_model.specs.PageWrite.{pages_text}
 use Rattle.lit_model.proofs.Complete.{numeric_complete}
 use Rattle.lit_model.proofs.PageComplete.{pages_complete}
 use Rattle.lit_model.proofs.PageRoundTrip.{pages_spelled, pages_writable}

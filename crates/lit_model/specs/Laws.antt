@@ -1,15 +1,15 @@
 -- The laws of numbers and pages as texts. What is read is what the grammar spells (`Numeric`, `Page`),
--- what is written (`NumericText`, `PageText`) is spelled so, and so it is read back. Each holds for
--- every input, and `proofs/Theorems.antt` proves it. Clauses of `Numeric::parse` and
+-- what is written (`NumericWrite`, `PageWrite`) is spelled so, and so it is read back. Each holds
+-- for every input, and `proofs/Theorems.antt` proves it. Clauses of `Numeric::parse` and
 -- `PageRanges::parse` follow from them.
 use Rattle.std.specs.Prelude.{◌≡◌, ◌↔◌, ℕ, true, List, Some}
 use Rattle.std.specs.Str.{all_scalars, chars}
 use Rattle.lit_model.specs.Numeric.{NumericView, Spells, IsWritable}
-use Rattle.lit_model.specs.NumericReading.{numeric_from}
-use Rattle.lit_model.specs.NumericText.{numeric_text}
+use Rattle.lit_model.specs.NumericParse.{numeric_from}
+use Rattle.lit_model.specs.NumericWrite.{numeric_text}
 use Rattle.lit_model.specs.Page.{PartView, SpellsPages, AreWritable}
-use Rattle.lit_model.specs.PageReading.{pages_from}
-use Rattle.lit_model.specs.PageText.{pages_text}
+use Rattle.lit_model.specs.PageParse.{pages_from}
+use Rattle.lit_model.specs.PageWrite.{pages_text}
 
 -- Characters are read as a number exactly if they spell it.
 abbrev pub NumbersAreReadAsSpelled : Type 0

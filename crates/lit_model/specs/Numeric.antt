@@ -12,7 +12,9 @@
 -- - A value is writable (`IsWritable`) if its numbers are from 0 to 2^31 - 1, exactly the last of
 --   two or more has no delimiter, and a prefix or suffix that is present is one or more affix
 --   characters. These are exactly the values that some text spells.
-use Rattle.std.specs.Prelude.{◌≡◌, ℕ, ◌^◌, ◌<◌, ◌≤◌, Bool, true, false, not, map, is_none, int_lt, ◌&&◌, ◌||◌, ◌==◌, List, [], ◌∷◌, ◌++◌, length, ℤ, pos, negsuc, Option, Some, None, IsSome, IsUtf8, chars, ⊤, option_map, string_bytes, encode_utf8_all}
+-- - Characters are in the grammar if they spell some value (`IsSpelled`).
+-- - `error_text` is the text that `Display` writes for each error of parsing.
+use Rattle.std.specs.Prelude.{◌≡◌, ℕ, ◌^◌, ◌<◌, ◌≤◌, Bool, true, false, not, map, is_none, int_lt, ◌&&◌, ◌||◌, ◌==◌, List, [], ◌∷◌, ◌++◌, length, ℤ, pos, negsuc, Option, Some, None, IsSome, IsUtf8, chars, ⊤, option_map, string_bytes, encode_utf8_all, codes}
 use Rattle.std.specs.Char.{is_ascii_digit, is_whitespace}
 use Rattle.std.specs.List.{AllByRecursion}
 use Rattle.std.specs.Str.Parse.{digits_value}
@@ -22,6 +24,8 @@ use Rattle.lit_model.specs.declared.numeric.NumericValue.{NumericValue}
 use Rattle.lit_model.specs.declared.numeric.NumericValue.TheVariants.{Number, Set}
 use Rattle.lit_model.specs.declared.numeric.NumericDelimiter.{NumericDelimiter}
 use Rattle.lit_model.specs.declared.numeric.NumericDelimiter.TheVariants.{Comma, Ampersand, Hyphen}
+use Rattle.lit_model.specs.declared.numeric.error.NumericError.{NumericError}
+use Rattle.lit_model.specs.declared.numeric.error.NumericError.TheVariants.{Memory, NotNumeric}
 
 -- ---- values as plain data
 
@@ -154,3 +158,15 @@ pub record IsWritable (v : NumericView) : Type 0 where
   pub value : IsWritableValue v.value
   pub prefix : IsWritableAffix is_affix v.prefix
   pub suffix : IsWritableAffix is_affix v.suffix
+
+-- the characters spell some value
+pub record IsSpelled (cs : List ℕ) : Type 0 where
+  pub value : NumericView
+  pub spelled : Spells value cs
+
+-- ---- errors
+
+-- the text that `Display` writes for each error of parsing
+abbrev pub error_text : NumericError → List ℕ
+error_text Memory = codes "out of memory"
+error_text NotNumeric = codes "not numeric"

@@ -9,9 +9,9 @@ use Rattle.std.specs.Fmt.{signed_decimal}
 use Rattle.csl_common.specs.declared.form.NumberForm.{NumberForm}
 use Rattle.csl_common.specs.declared.form.NumberForm.TheVariants as forms
 use Rattle.csl_common.specs.declared.ordinal.GrammarGender.{GrammarGender}
-use Rattle.csl_common.specs.Ordinals.{OrdinalTexts, has_long_ordinal}
+use Rattle.csl_common.specs.Ordinal.{OrdinalTexts, has_long_ordinal}
 use Rattle.lit_model.specs.Numeric.{NumericView, is_bare}
-use Rattle.lit_model.specs.NumericText.{value_text, numeric_text}
+use Rattle.lit_model.specs.NumericWrite.{value_text, numeric_text}
 use Rattle.lit_model.specs.Roman.{roman, has_roman}
 
 -- the number as a lower-case roman numeral if it has one, else in decimal

@@ -2,7 +2,7 @@
 -- `NotNumeric` means that there is none, and `Memory` may come with any text.
 use Rattle.std.specs.Prelude.{◌≡◌, ℕ, List, Option, Some, None, Result, Ok, Err, chars}
 use Rattle.lit_model.specs.Numeric.{ValueView}
-use Rattle.lit_model.specs.NumericReading.{read_of, value_at, text_from, numeric_from}
+use Rattle.lit_model.specs.NumericParse.{read_of, value_at, text_from, numeric_from}
 use Rattle.lit_model.specs.declared.numeric.parse.Shape.{Shape}
 use Rattle.lit_model.specs.declared.numeric.error.NumericError.{NumericError}
 use Rattle.lit_model.specs.declared.numeric.error.NumericError.TheVariants as errors

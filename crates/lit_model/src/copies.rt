@@ -1,4 +1,5 @@
 //! Copies of entries.
+//! Definitions: specs/Work.antt, specs/Source.antt, specs/Person.antt.
 
 ghost use Rattle.std.specs.Prelude.{◌≡◌, ◌∷◌, ◌++◌, [], map, option_map, IfOk, OnOk};
 ghost use Rattle.lit_model.specs.Entry.{parents_of};

@@ -2,8 +2,8 @@
 
 ghost use Rattle.std.specs.Prelude.{◌≡◌, ◌<◌, Option, [], ◌∷◌, ◌++◌, None, MatchOption, IfSome, count_by, encode_utf8, length, chars, encode_utf8_all};
 ghost use Rattle.lit_model.specs.Numeric.{is_affix, is_delimiter};
-ghost use Rattle.lit_model.specs.NumericReading.{longest_prefix, after_longest_prefix, integer_at, delimiter_of, delimiter_at};
-ghost use Rattle.lit_model.specs.NumericReading as reading;
+ghost use Rattle.lit_model.specs.NumericParse.{longest_prefix, after_longest_prefix, integer_at, delimiter_of, delimiter_at};
+ghost use Rattle.lit_model.specs.NumericParse as reading;
 ghost use Rattle.lit_model.specs.Scan.{passes, read_view};
 
 use crate::numeric::NumericDelimiter;
@@ -94,7 +94,7 @@ pub fn integer(text: &str) -> Option<(i32, &str)>
 }
 
 /// The delimiter at the front, and the text after it. White space around it is skipped.
-#[tactic(auto, unfolding(crate::specs::NumericReading::delimiter_at))]
+#[tactic(auto, unfolding(crate::specs::NumericParse::delimiter_at))]
 pub fn delimiter(text: &str) -> Option<(NumericDelimiter, &str)>
     ensures { read_view result ≡ delimiter_at (chars text.now) }
 {

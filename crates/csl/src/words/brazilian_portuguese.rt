@@ -1,5 +1,6 @@
 //! Brazilian Portuguese, in the words of CSL's own locale `pt-BR` (CSL 1.0.2, Locale; Appendix II:
 //! Terms).
+//! Definitions: specs/Language.antt, specs/Languages.antt, specs/Words.antt.
 
 ghost use Rattle.std.specs.Prelude.{◌≡◌, map};
 ghost use Rattle.csl.specs.Language.{language_contents, term_of_word};

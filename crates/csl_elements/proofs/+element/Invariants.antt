@@ -1,7 +1,7 @@
 -- Each turn of the loop takes one node, branch or child of names from the lists and adds only what is
 -- inside it.
 use Rattle.std.proofs.Common.{◌+◌, ◌<◌, max}
-use Rattle.csl_elements.specs.Inside.{node_depth, node_depths, node_counts, branch_depths, branch_counts, child_depths, child_counts}
+use Rattle.csl_elements.specs.Element.{node_depth, node_depths, node_counts, branch_depths, branch_counts, child_depths, child_counts}
 use Rattle.csl_elements.proofs.+element.Given as goal
 
 abbrev pub decreases-element::LayoutRenderingElement::drop : goal.decreases-element::LayoutRenderingElement::drop

@@ -1,4 +1,5 @@
 //! Constructors of choices and branches. Every attribute that is not given has its default.
+//! Definitions: specs/View.antt, specs/Constructors.antt.
 
 ghost use Rattle.std.specs.Prelude.{◌≡◌, None, [], ◌∷◌};
 ghost use Rattle.csl_elements.specs.Constructors.{no_tests};

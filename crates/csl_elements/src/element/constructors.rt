@@ -5,7 +5,7 @@ ghost use Rattle.std.specs.Prelude.{◌≡◌, IfOk, None, Some, []};
 ghost use Rattle.csl_elements.specs.Constructors.{no_affixes, plain_layout, no_dressing};
 ghost use Rattle.csl_elements.specs.Dressing.{text_if};
 ghost use Rattle.csl_elements.specs.NamesParts.{no_formatting};
-ghost use Rattle.csl_elements.specs.NameOptions.{partial_options, no_options};
+ghost use Rattle.csl_elements.specs.NamesOptions.{partial_options, no_options};
 ghost use Rattle.csl_elements.specs.Node.{group, names, no_substitutes};
 ghost use Rattle.csl_elements.specs.View.{definition, view_group, view_names, view_nodes};
 

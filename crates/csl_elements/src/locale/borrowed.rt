@@ -1,8 +1,9 @@
 //! Ordinals that live as long as the locales that they are looked up in (CSL 1.0.2, Ordinals).
+//! Definitions: specs/Ordinals.antt, specs/Locale.antt.
 
 ghost use Rattle.std.specs.Prelude.{◌≡◌, map, option_map};
 ghost use Rattle.csl_elements.specs.Locale.{ordinals_of};
-ghost use Rattle.csl_elements.specs.Ordinal.{ordinals, long_ordinals};
+ghost use Rattle.csl_elements.specs.Ordinals.{ordinals, long_ordinals};
 
 use crate::locale::{LocaleOrdinals, ordinals};
 use csl_common::GrammarGender;

@@ -2,7 +2,7 @@
 
 ghost use Rattle.std.specs.Prelude.{◌≡◌, map, option_map};
 ghost use Rattle.csl_elements.specs.Locale.{ordinal_view, ordinals_of};
-ghost use Rattle.csl_elements.specs.Ordinal.{digits_for, is_in_group, first_of, for_gender, first_ordinals, ordinal_for, ordinals, long_ordinals};
+ghost use Rattle.csl_elements.specs.Ordinals.{digits_for, is_in_group, first_of, for_gender, first_ordinals, ordinal_for, ordinals, long_ordinals};
 
 use crate::locale::{Locale, OrdinalMatch, OrdinalSlot, OrdinalTerm};
 use csl_common::{GrammarGender, Ordinals};

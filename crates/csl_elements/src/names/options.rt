@@ -2,7 +2,7 @@
 //! Name Options).
 
 ghost use Rattle.std.specs.Prelude.{◌≡◌};
-ghost use Rattle.csl_elements.specs.NameOptions.{partial_options, inherited_options, apply_options, complete_options, with_defaults, names_delimiter_of, limit_of, is_suppressed};
+ghost use Rattle.csl_elements.specs.NamesOptions.{partial_options, inherited_options, apply_options, complete_options, with_defaults, names_delimiter_of, limit_of, is_suppressed};
 
 use crate::names::{DelimiterBehavior, NameAnd, NameAsSortOrder, NameForm};
 

@@ -1,4 +1,5 @@
 //! The names of kinds (CSL 1.0.2, Appendix III: Types).
+//! Definitions: specs/Taxonomy.antt.
 
 ghost use Rattle.std.specs.Prelude.{◌≡◌, ◌↔◌, Some};
 ghost use Rattle.csl_elements.specs.Taxonomy.{name_of};

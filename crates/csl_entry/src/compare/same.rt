@@ -4,6 +4,7 @@
 //! pages, ranges and separators in order; dates by year, month, day, season and whether they are
 //! approximate; persons, one by one, by every text and the comma. A number never equals a text that
 //! is not a number, and pages never equal a text that is not pages.
+//! Definitions: specs/Answers.antt, crates/lit_model/specs/SamePerson.antt.
 
 ghost use Rattle.std.specs.Prelude.{◌≡◌, ◌↔◌, map, option_map, option_copied, IsTrue};
 ghost use Rattle.lit_model.specs.Date.{date_view};

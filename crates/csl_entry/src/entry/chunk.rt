@@ -1,7 +1,8 @@
 //! Texts of one chunk.
+//! Definitions: specs/Answers.antt.
 
 ghost use Rattle.std.specs.Prelude.{◌≡◌, IfOk, string_bytes};
-ghost use Rattle.csl_entry.specs.Chunk as spec;
+ghost use Rattle.csl_entry.specs.Answers as spec;
 ghost use Rattle.lit_model.specs.Text.{chunks};
 
 use lit_model::{ChunkKind, ChunkedString, Memory, StringChunk};

@@ -1,9 +1,10 @@
 //! Texts that may spell a number.
+//! Definitions: specs/Answers.antt.
 
 ghost use Rattle.std.specs.Prelude.{◌≡◌, ◌↔◌, IfOk, chars};
 ghost use Rattle.lit_model.specs.MaybeTyped.{maybe_view, typed};
 ghost use Rattle.lit_model.specs.Numeric.{NumericView, numeric_view, Spells};
-ghost use Rattle.csl_entry.specs.NumericText.{numeric_or_text};
+ghost use Rattle.csl_entry.specs.Answers.{numeric_or_text};
 
 use lit_model::{MaybeTyped, Memory, Numeric, NumericError};
 use std::alloc::Global;

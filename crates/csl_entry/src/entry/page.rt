@@ -1,9 +1,10 @@
 //! The answer of an entry to a page variable.
+//! Definitions: specs/EntryNumber.antt.
 
 ghost use Rattle.std.specs.Prelude.{◌≡◌, IfOk, option_map};
 ghost use Rattle.lit_model.specs.MaybeTyped.{maybe_view};
 ghost use Rattle.lit_model.specs.Page.{pages_view};
-ghost use Rattle.csl_entry.specs.EntryPage.{pages_of};
+ghost use Rattle.csl_entry.specs.EntryNumber.{pages_of};
 
 use csl_elements::PageVariable;
 use lit_model::{Entry, MaybeTyped, Memory, PageRanges};

@@ -2,7 +2,7 @@
 
 ghost use Rattle.std.specs.Prelude.{◌≡◌, IfOk, map, option_and_then, option_copied, option_map, Some};
 ghost use Rattle.csl_entry.specs.Answers.{cow_view};
-ghost use Rattle.csl_entry.specs.Chunk as spec;
+ghost use Rattle.csl_entry.specs.Answers as spec;
 ghost use Rattle.csl_entry.specs.CitationLabel.{label};
 ghost use Rattle.csl_entry.specs.EntryStandard.{own_location, own_publisher, own_title, press_name, press_place, repository, in_form, language_answer, standard_of, verbatim_chunk, web_address};
 ghost use Rattle.lit_model.specs.declared.text.ChunkKind.TheVariants.{Normal};

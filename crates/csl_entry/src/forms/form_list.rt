@@ -1,4 +1,5 @@
 //! The forms of the names of one list. The form of a name that is not shown is absent.
+//! Definitions: specs/NameProperties.antt, specs/LentForm.antt.
 
 ghost use Rattle.std.specs.Prelude.{◌≡◌, ◌≤◌, ◌<◌, ◌↔◌, Bool, Some, is_some, length, All, IsTrue, IsSome, option_and_then, slice_get, count_by};
 ghost use Rattle.std.specs.Borrow.{sem};

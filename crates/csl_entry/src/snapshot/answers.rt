@@ -1,4 +1,5 @@
 //! The answers of a snapshot.
+//! Definitions: specs/Snapshot.antt.
 
 ghost use Rattle.std.specs.Prelude.{◌≡◌, [], None, map, option_copied};
 ghost use Rattle.lit_model.specs.Text.{chunks};

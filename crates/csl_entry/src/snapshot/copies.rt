@@ -1,4 +1,5 @@
 //! Copies of a snapshot.
+//! Definitions: specs/Snapshot.antt.
 
 ghost use Rattle.std.specs.Prelude.{◌≡◌, map, IfOk};
 ghost use Rattle.lit_model.specs.MaybeTyped.{maybe_view};

@@ -1,4 +1,5 @@
 //! The answers of an entry to the variables in a set, in the order of the set, and owned.
+//! Definitions: specs/Snapshot.antt.
 
 ghost use Rattle.std.specs.Prelude.{◌≡◌, ◌++◌, map, option_map, option_to_list, IfOk, OnOk};
 ghost use Rattle.std.specs.List.{filter};

@@ -3,13 +3,12 @@
 
 ghost use Rattle.std.specs.Prelude.{◌≡◌, [], false, map, IfOk};
 ghost use Rattle.std.specs.Bool.{OnFalse};
-ghost use Rattle.csl_elements.specs.NameOptions.{complete_options};
+ghost use Rattle.csl_elements.specs.NamesOptions.{complete_options};
 ghost use Rattle.csl_elements.specs.Names.{view_name};
 ghost use Rattle.csl_elements.specs.NamesParts.{parts_node, names_node};
 ghost use Rattle.csl_elements.specs.View.{view_child, name_children};
 ghost use Rattle.csl_names.specs.NamesForms.{default_form, form_in, list_forms, default_forms, shown_count, count_of, saturated_count, hides_all, name_hides, each_hides, hides_names, writes_no_name};
-ghost use Rattle.csl_names.specs.NamesLists.{PersonLists};
-ghost use Rattle.csl_names.specs.PersonLists.{list_of};
+ghost use Rattle.csl_names.specs.NamesLists.{PersonLists, list_of};
 
 use crate::names::lists::{PersonList, all_empty};
 use csl_entry::DisambiguatedNameForm;

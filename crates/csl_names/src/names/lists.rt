@@ -5,9 +5,9 @@ ghost use Rattle.std.specs.Prelude.{◌≡◌, [], ◌∷◌, ◌++◌, map, IfO
 ghost use Rattle.lit_model.specs.Person.{person_view};
 ghost use Rattle.csl_entry.specs.Answers.{cow_view};
 ghost use Rattle.csl_context.specs.RenderInput.{peek_names};
-ghost use Rattle.csl_context.specs.ContextView.{Runs, GivesBy, render_input};
+ghost use Rattle.csl_context.specs.Context.{Runs, GivesBy, render_input};
 ghost use Rattle.csl_names.specs.NamesLists.{all_empty, is_pair, may_merge, merged_lists, peeked_lists, each_resolved, state_after_resolve_all, resolved_lists, lists_state};
-ghost use Rattle.csl_names.specs.PersonLists.{list_of, lists_view};
+ghost use Rattle.csl_names.specs.NamesLists.{list_of, lists_view};
 
 use csl_context::{Context, RenderError};
 use csl_entry::{EntryLike, same_people};

@@ -3,16 +3,16 @@
 ghost use Rattle.std.specs.Prelude.{◌≡◌, [], Some, true, map, option_map, is_some, decimal, IfOk};
 ghost use Rattle.std.specs.Bool.{OnFalse};
 ghost use Rattle.lit_model.specs.Person.{person_view};
-ghost use Rattle.csl_elements.specs.NameOptions.{inherited_options};
+ghost use Rattle.csl_elements.specs.NamesOptions.{inherited_options};
 ghost use Rattle.csl_elements.specs.Names.{view_name, view_et_al};
 ghost use Rattle.csl_elements.specs.NamesParts.{parts_node, default_name, default_et_al};
 ghost use Rattle.csl_tree.specs.Content.{◌++>◌, elem_content};
 ghost use Rattle.csl_tree.specs.Tokens.{meta_of};
 ghost use Rattle.csl_entry.specs.Answers.{cow_view};
 ghost use Rattle.csl_context.specs.Texts.{text_in};
-ghost use Rattle.csl_context.specs.ContextView.{Runs, IsInnermost, close_part_by, with_content};
-ghost use Rattle.csl_names.specs.NamesContent.{names_style, with_lists_kept, with_names_body, with_affixed_body, names_content, names_state, lists_meta, names_style_view};
-ghost use Rattle.csl_names.specs.PersonLists.{list_of};
+ghost use Rattle.csl_context.specs.Context.{Runs, IsInnermost, close_part_by, with_content};
+ghost use Rattle.csl_names.specs.NamesNode.{names_style, with_lists_kept, with_names_body, with_affixed_body, names_content, names_state, lists_meta, names_style_view};
+ghost use Rattle.csl_names.specs.NamesLists.{list_of};
 
 use crate::names::forms::count_of;
 use crate::names::kept::forms_in;

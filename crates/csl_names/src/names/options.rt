@@ -1,9 +1,10 @@
 //! The options by which the names of a names node are written (CSL 1.0.2, Inheritable Name
 //! Options): those of its name, over those of the node, over the inherited ones.
+//! Definitions: crates/csl_elements/specs/NamesOptions.antt.
 
 ghost use Rattle.std.specs.Prelude.{◌≡◌, option_map, string_bytes};
 ghost use Rattle.std.specs.Option.{option_or};
-ghost use Rattle.csl_elements.specs.NameOptions.{partial_options, inherited_options, apply_options, complete_options, with_defaults, names_delimiter_of};
+ghost use Rattle.csl_elements.specs.NamesOptions.{partial_options, inherited_options, apply_options, complete_options, with_defaults, names_delimiter_of};
 
 use csl_style::{
     DelimiterBehavior, InheritableNameOptions, InheritedNameOptions, NameForm, NameOptions,

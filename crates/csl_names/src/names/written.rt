@@ -1,14 +1,15 @@
 //! The lists of a names node, each with its label, and delimiters between them (CSL 1.0.2, Names;
 //! Label in Names).
+//! Definitions: specs/NamesNode.antt.
 
 ghost use Rattle.std.specs.Prelude.{◌≡◌, map, slice_get, option_map, true};
 ghost use Rattle.lit_model.specs.Person.{person_view};
 ghost use Rattle.csl_elements.specs.Names.{view_label};
 ghost use Rattle.csl_elements.specs.NamesParts.{placed_label};
 ghost use Rattle.csl_entry.specs.Answers.{cow_view};
-ghost use Rattle.csl_context.specs.ContextView.{Runs, with_content};
-ghost use Rattle.csl_names.specs.NamesContent.{label_content, label_on, with_label, with_list, with_labelled_list, with_list_if_any, is_skipped, with_lists, with_names_written, names_style_view};
-ghost use Rattle.csl_names.specs.PersonLists.{list_of};
+ghost use Rattle.csl_context.specs.Context.{Runs, with_content};
+ghost use Rattle.csl_names.specs.NamesNode.{label_content, label_on, with_label, with_list, with_labelled_list, with_list_if_any, is_skipped, with_lists, with_names_written, names_style_view};
+ghost use Rattle.csl_names.specs.NamesLists.{list_of};
 
 use crate::list_styles::push_list_by;
 use crate::names::lists::PersonList;
@@ -120,7 +121,7 @@ impl NamesStyle<'_> {
     }
 
     /// Writes a list: the delimiter, unless the list is the first; then label, names, label.
-    #[tactic(auto, unfolding(crate::specs::NamesContent::with_labelled_list))]
+    #[tactic(auto, unfolding(crate::specs::NamesNode::with_labelled_list))]
     fn push_labelled_list<T>(
         &self,
         ctx: &mut Context<'_, T>,

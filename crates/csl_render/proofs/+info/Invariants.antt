@@ -4,7 +4,7 @@ use Rattle.csl_elements.specs.Node.{size, sizes, expanded_substitutes_size, expa
 use Rattle.csl_elements.specs.View.{view_node, view_text, view_group, view_choose, view_names, view_nodes}
 use Rattle.csl_style.specs.Expanded.{macro_env}
 use Rattle.csl_context.specs.State.{State}
-use Rattle.csl_context.specs.ContextView.{render_input}
+use Rattle.csl_context.specs.Context.{render_input}
 use Rattle.csl_nodes.specs.Usage.{info_union}
 use Rattle.csl_render.specs.DryRun.{Adds}
 use Rattle.csl_render.specs.Names.{author, expanded_substitutes_of}

@@ -3,10 +3,10 @@ use Rattle.csl_elements.specs.NamesParts.{names_node}
 use Rattle.csl_elements.specs.Node.{size, sizes, expanded_substitutes_size, expand, expand_nodes, expand_substitute_nodes}
 use Rattle.csl_elements.specs.View.{view_node, view_text, view_group, view_choose, view_names, view_nodes}
 use Rattle.csl_style.specs.Expanded.{macro_env}
-use Rattle.csl_context.specs.ContextView.{render_input}
+use Rattle.csl_context.specs.Context.{render_input}
 use Rattle.csl_render.specs.Names.{expanded_substitutes_of}
 use Rattle.csl_render.specs.Plan.{ArePlans}
-use Rattle.csl_render.specs.Rendering.{with_whole_output}
+use Rattle.csl_render.specs.Render.{with_whole_output}
 use Rattle.csl_render.specs.Tree.{nodes_output, delimited_output, output_until_text}
 use Rattle.csl_nodes.specs.Text.{render_output, with_output}
 use Rattle.csl_render.proofs.+render.Given as goal

@@ -2,7 +2,7 @@ use Rattle.std.proofs.Common.{◌≡◌, ◌+◌, ◌*◌, ◌≤◌, drop}
 use Rattle.csl_elements.specs.Node.{size, sizes, expanded_substitutes_size, expand, expand_nodes}
 use Rattle.csl_elements.specs.View.{view_node, view_text, view_group, view_choose, view_names, view_nodes}
 use Rattle.csl_style.specs.Expanded.{macro_env}
-use Rattle.csl_context.specs.ContextView.{render_input}
+use Rattle.csl_context.specs.Context.{render_input}
 use Rattle.csl_render.specs.Names.{expanded_substitutes_of}
 use Rattle.csl_render.specs.Tree.{any_shows}
 use Rattle.csl_render.proofs.+shows.Given as goal

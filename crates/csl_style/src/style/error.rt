@@ -1,4 +1,5 @@
 //! The reasons to refuse a style.
+//! Definitions: specs/Style.antt.
 
 ghost use Rattle.std.specs.Prelude.{◌≡◌, Some};
 ghost use Rattle.csl_style.specs.Style.{refusal_text};

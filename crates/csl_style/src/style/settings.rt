@@ -1,4 +1,5 @@
 //! The settings for all nodes of a style (CSL 1.0.2, Global Options, Inheritable Name Options).
+//! Definitions: specs/Style.antt.
 
 ghost use Rattle.csl_style.specs.Style.{AreDefaults};
 

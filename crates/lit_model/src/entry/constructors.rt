@@ -1,5 +1,6 @@
 //! Entries by calls that chain: an entry with a title, then its other common fields one after
 //! another. Each call sets one field. The fields that have no such call are set by assignment.
+//! Definitions: specs/Entry.antt.
 
 ghost use Rattle.std.specs.Prelude.{◌≡◌, Some, IfOk};
 ghost use Rattle.lit_model.specs.declared.entry.Entry.{out-Entry};

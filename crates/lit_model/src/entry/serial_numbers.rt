@@ -1,4 +1,5 @@
 //! The serial numbers of an entry, set one by one.
+//! Definitions: specs/Entry.antt.
 
 ghost use Rattle.std.specs.Prelude.{codes, OnOk, OnErr};
 ghost use Rattle.lit_model.specs.Entry.{HasSerials, own_serials, serials_with};

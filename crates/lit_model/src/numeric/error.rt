@@ -1,7 +1,8 @@
 //! The error of parsing a number or pages.
+//! Definitions: specs/Numeric.antt.
 
 ghost use Rattle.std.specs.Prelude.{◌≡◌, Some};
-ghost use Rattle.lit_model.specs.NumericError.{error_text};
+ghost use Rattle.lit_model.specs.Numeric.{error_text};
 ghost use Rattle.lit_model.specs.declared.numeric.error.NumericError.TheVariants as errors;
 
 use csl_common::Memory as OutOfMemory;

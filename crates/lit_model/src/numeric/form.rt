@@ -3,7 +3,7 @@
 ghost use Rattle.std.specs.Prelude.{◌≡◌, Option, true, OnOk, OnErr};
 ghost use Rattle.std.specs.Fmt.{WritesInCalls};
 ghost use Rattle.lit_model.specs.Numeric.{numeric_view};
-ghost use Rattle.lit_model.specs.NumericText.{numbers_text};
+ghost use Rattle.lit_model.specs.NumericWrite.{numbers_text};
 ghost use Rattle.lit_model.specs.NumericForm.{roman_text, ordinal_text, long_ordinal_text, form_text, numeric_in_form};
 
 use super::roman::write_roman;

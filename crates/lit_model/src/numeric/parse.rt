@@ -2,10 +2,10 @@
 
 ghost use Rattle.std.specs.Prelude.{◌≡◌, ◌↔◌, ◌<◌, Option, Some, None, IfOk, IsTrue, MatchOption, MatchResult, Err, option_map, chars, string_bytes};
 ghost use Rattle.lit_model.specs.Numeric.{numeric_view, NumericView, value_view, Spells, IsWritable};
-ghost use Rattle.lit_model.specs.NumericText.{numeric_text};
-ghost use Rattle.lit_model.specs.NumericReading.{read_of, rest_of, integers_at, value_at, numeric_from, text_from};
+ghost use Rattle.lit_model.specs.NumericWrite.{numeric_text};
+ghost use Rattle.lit_model.specs.NumericParse.{read_of, rest_of, integers_at, value_at, numeric_from, text_from};
 ghost use Rattle.lit_model.specs.Parsing.{Gives, IsShapeOf};
-ghost use Rattle.lit_model.specs.Spelled.{IsSpelled};
+ghost use Rattle.lit_model.specs.Numeric.{IsSpelled};
 
 use super::error::NumericError;
 use super::{Numeric, NumericDelimiter, NumericValue};
@@ -73,7 +73,7 @@ fn integers(
 }
 
 /// The parts of a text, or `None` if the text is not in the grammar.
-#[tactic(auto, unfolding(crate::specs::NumericReading::numeric_from))]
+#[tactic(auto, unfolding(crate::specs::NumericParse::numeric_from))]
 fn shape_of(text: &str) -> Option<Shape<'_>>
     ensures { MatchOption result (numeric_from (chars text.now) ≡ None)
         (IsShapeOf (chars text.now)) }
@@ -97,7 +97,7 @@ fn shape_of(text: &str) -> Option<Shape<'_>>
 }
 
 /// The value of a text: one number if it has no delimiter, else the list of its numbers.
-#[tactic(auto, unfolding(crate::specs::NumericReading::value_at))]
+#[tactic(auto, unfolding(crate::specs::NumericParse::value_at))]
 fn value_of(alloc: Global, shape: &Shape<'_>) -> Result<NumericValue, NumericError>
     ensures { Gives value_view result
         (read_of (value_at shape.now.delimiters (chars shape.now.numbers.now))) }

@@ -4,7 +4,7 @@ ghost use Rattle.std.specs.Prelude.{◌≡◌, ◌<◌, Some, true, [], OnOk, On
 ghost use Rattle.std.specs.Fmt.{WritesInCalls};
 ghost use Rattle.lit_model.specs.Numeric.{numeric_view, value_view};
 ghost use Rattle.lit_model.specs.Characters.{zero_char};
-ghost use Rattle.lit_model.specs.NumericText.{integer_text, delimiter_text, numbers_text, value_text, numeric_text};
+ghost use Rattle.lit_model.specs.NumericWrite.{integer_text, delimiter_text, numbers_text, value_text, numeric_text};
 
 use super::{Numeric, NumericDelimiter, NumericValue};
 use csl_common::{Sink, TrackingWriter, WriteTo, display_text};

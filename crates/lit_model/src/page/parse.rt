@@ -2,11 +2,11 @@
 
 ghost use Rattle.std.specs.Prelude.{◌≡◌, Option, List, Some, None, Err, IfOk, MatchOption, MatchResult, IsSome, option_map, count_by, chars};
 ghost use Rattle.lit_model.specs.Numeric.{numeric_view};
-ghost use Rattle.lit_model.specs.NumericReading.{read_of, rest_of};
+ghost use Rattle.lit_model.specs.NumericParse.{read_of, rest_of};
 ghost use Rattle.lit_model.specs.Page.{PartView, part_view, parts_view, pages_view, is_separator, SpellsPages, AreWritable};
-ghost use Rattle.lit_model.specs.PageText.{pages_text};
-ghost use Rattle.lit_model.specs.PageReading.{page_at, mark_at, separator_at, item_at, parts_at, pages_from};
-ghost use Rattle.lit_model.specs.PageParsing.{page_of, item_of};
+ghost use Rattle.lit_model.specs.PageWrite.{pages_text};
+ghost use Rattle.lit_model.specs.PageParse.{page_at, mark_at, separator_at, item_at, parts_at, pages_from};
+ghost use Rattle.lit_model.specs.PageParse.{page_of, item_of};
 ghost use Rattle.lit_model.specs.Parsing.{Gives};
 
 use super::{PageRanges, PageRangesPart};
@@ -32,7 +32,7 @@ enum ItemShape<'a> {
 }
 
 /// The page at the front, and the text after it.
-#[tactic(auto, unfolding(crate::specs::PageReading::page_at))]
+#[tactic(auto, unfolding(crate::specs::PageParse::page_at))]
 fn page(text: &str) -> Option<(PageShape<'_>, &str)>
     ensures { option_map (λ x. (page_of x.0, chars x.1.now)) result ≡ page_at (chars text.now) }
 {
@@ -50,7 +50,7 @@ fn page(text: &str) -> Option<(PageShape<'_>, &str)>
 }
 
 /// The text after a range mark and the white space around it.
-#[tactic(auto, unfolding(crate::specs::PageReading::mark_at))]
+#[tactic(auto, unfolding(crate::specs::PageParse::mark_at))]
 fn after_mark(text: &str) -> Option<&str>
     ensures { option_map (λ rest. chars rest.now) result ≡ mark_at (chars text.now) }
 {
@@ -66,7 +66,7 @@ fn after_mark(text: &str) -> Option<&str>
 }
 
 /// The separator at the front, and the text after it. White space around it is skipped.
-#[tactic(auto, unfolding(crate::specs::PageReading::separator_at))]
+#[tactic(auto, unfolding(crate::specs::PageParse::separator_at))]
 fn separator(text: &str) -> Option<(PageRangesPart, &str)>
     ensures { option_map (λ x. (part_view x.0, chars x.1.now)) result
         ≡ separator_at (chars text.now) }
@@ -85,7 +85,7 @@ fn separator(text: &str) -> Option<(PageRangesPart, &str)>
 }
 
 /// The page or the range at the front, and the text after it.
-#[tactic(auto, unfolding(crate::specs::PageReading::item_at, crate::specs::PageReading::item_from))]
+#[tactic(auto, unfolding(crate::specs::PageParse::item_at, crate::specs::PageParse::item_from))]
 fn item(text: &str) -> Option<(ItemShape<'_>, &str)>
     ensures { option_map (λ x. (item_of x.0, chars x.1.now)) result ≡ item_at (chars text.now) }
 {
@@ -189,7 +189,7 @@ fn parts(alloc: Global, separators: usize, text: &str) -> Result<Vec<PageRangesP
 
 /// The number of separators and the text from the first item on; `None` if the text is not in the
 /// grammar.
-#[tactic(auto, unfolding(crate::specs::PageReading::pages_from))]
+#[tactic(auto, unfolding(crate::specs::PageParse::pages_from))]
 fn items_of(text: &str) -> Option<(usize, &str)>
     ensures { MatchOption result (pages_from (chars text.now) ≡ None)
         (λ x. IsSome (pages_from (chars text.now))

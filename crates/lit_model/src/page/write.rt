@@ -4,7 +4,7 @@ ghost use Rattle.std.specs.Prelude.{◌≡◌, Some, true, OnOk, OnErr};
 ghost use Rattle.std.specs.Fmt.{WritesInCalls};
 ghost use Rattle.lit_model.specs.Numeric.{numeric_view};
 ghost use Rattle.lit_model.specs.Page.{part_view, pages_view, range};
-ghost use Rattle.lit_model.specs.PageText.{part_text, pages_text};
+ghost use Rattle.lit_model.specs.PageWrite.{part_text, pages_text};
 
 use super::{PageRanges, PageRangesPart};
 use crate::numeric::Numeric;

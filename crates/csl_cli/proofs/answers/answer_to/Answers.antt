@@ -6,7 +6,7 @@ use Rattle.csl_tree.specs.declared.html_error.HtmlError.{HtmlError}
 use Rattle.csl_tree.specs.declared.html_error.HtmlError.TheVariants as errors
 use Rattle.csl_tree.specs.Html.{IsNotHtml}
 use Rattle.csl_tree.specs.Tokens.{Token}
-use Rattle.csl_tree.specs.Writing.{text_in_format}
+use Rattle.csl_tree.specs.Write.{text_in_format}
 use Rattle.csl_tree.specs.declared.elem.BufWriteFormat.{BufWriteFormat}
 use Rattle.csl_samples.specs.declared.entries.BuiltIn.{BuiltIn}
 use Rattle.csl_samples.specs.declared.styles.BuiltInStyle.{BuiltInStyle}

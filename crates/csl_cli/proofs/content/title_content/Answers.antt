@@ -1,5 +1,5 @@
 use Rattle.std.proofs.Common.{Some, ap, ◌∙◌}
-use Rattle.csl_render.specs.CiteContent.{cite_content}
+use Rattle.csl_render.specs.Cites.{cite_content}
 use Rattle.csl_samples.specs.Title.{title_answers}
 use Rattle.csl_cli.proofs.content.title_content.Goals as goal
 

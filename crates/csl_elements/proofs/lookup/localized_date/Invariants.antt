@@ -1,5 +1,5 @@
 use Rattle.std.proofs.Common.{◌≡◌, drop}
-use Rattle.csl_elements.specs.Date.{date_in_form}
+use Rattle.csl_elements.specs.Lookup.{date_in_form}
 use Rattle.csl_elements.proofs.lookup.localized_date.Given as goal
 
 abbrev pub invariant-loop-locale : goal.invariant-loop-locale

@@ -1,6 +1,6 @@
 use Rattle.std.proofs.Common.{◌≡◌, drop, map}
-use Rattle.csl_context.specs.ContextView.{render_input}
-use Rattle.csl_nodes.specs.Conditions.{is_positioned, has_outcome}
+use Rattle.csl_context.specs.Context.{render_input}
+use Rattle.csl_nodes.specs.Condition.{is_positioned, has_outcome}
 use Rattle.csl_nodes.proofs.branch_tests.any_positioned.Given as goal
 
 -- the remaining tests have the outcome if all have

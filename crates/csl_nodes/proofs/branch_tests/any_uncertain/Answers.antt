@@ -1,7 +1,7 @@
 use Rattle.std.proofs.Common.{sym, ◌∙◌}
 use Rattle.csl_elements.specs.declared.taxonomy.DateVariable.TheVariants.{Accessed}
-use Rattle.csl_context.specs.ContextView.{render_input}
-use Rattle.csl_nodes.specs.Conditions.{is_uncertain}
+use Rattle.csl_context.specs.Context.{render_input}
+use Rattle.csl_nodes.specs.Condition.{is_uncertain}
 use Rattle.csl_nodes.proofs.Outcomes.{outcome_at, no_outcome_at}
 use Rattle.csl_nodes.proofs.branch_tests.any_uncertain.Goals as goal
 

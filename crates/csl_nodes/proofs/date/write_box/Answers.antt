@@ -5,11 +5,11 @@ use Rattle.csl_tree.specs.Content.{elem_content}
 use Rattle.csl_tree.specs.Tokens.{of_date}
 use Rattle.csl_entry.specs.Answers.{Answers}
 use Rattle.csl_context.specs.Bodies.{BodyAttributes, inside_body, values_before, with_open_body, with_closed_body}
-use Rattle.csl_context.specs.ContextView.{ContextView, render_input, with_content, with_part, close_part_by}
+use Rattle.csl_context.specs.Context.{ContextView, render_input, with_content, with_part, close_part_by}
 use Rattle.csl_context.proofs.BodyAround.{body_around, body_calls}
 use Rattle.csl_context.proofs.Leaving.{and_then}
 use Rattle.csl_nodes.proofs.Dressings.{plain_attributes}
-use Rattle.csl_nodes.specs.Dates.{date_body, localized_node}
+use Rattle.csl_nodes.specs.Date.{date_body, localized_node}
 use Rattle.csl_nodes.specs.declared.date_parts.DateValue.{DateValue}
 use Rattle.csl_nodes.specs.declared.date_parts.LocalizedDate.{LocalizedDate}
 use Rattle.csl_nodes.proofs.date.write_box.Goals as goal

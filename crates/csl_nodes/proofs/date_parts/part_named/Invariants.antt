@@ -1,6 +1,6 @@
 use Rattle.std.proofs.Common.{◌≡◌, map, drop}
 use Rattle.csl_elements.specs.View.{view_date_part}
-use Rattle.csl_nodes.specs.Dates.{own_part}
+use Rattle.csl_nodes.specs.Date.{own_part}
 use Rattle.csl_nodes.proofs.date_parts.part_named.Given as goal
 
 -- the first part of that name among the remaining ones is the first among all

@@ -8,9 +8,9 @@ use Rattle.csl_elements.specs.declared.date.DateParts.TheVariants.{YearMonthDay}
 use Rattle.csl_tree.proofs.Joins.{join-none, join_assoc}
 use Rattle.csl_tree.specs.Content.{◌++>◌}
 use Rattle.csl_tree.specs.Tokens.{has_children}
-use Rattle.csl_context.specs.ContextView.{render_input}
+use Rattle.csl_context.specs.Context.{render_input}
 use Rattle.csl_context.specs.Texts.{text_in_if}
-use Rattle.csl_nodes.specs.Dates.{own_part, own_parts, part_content, joined_by, localized_node}
+use Rattle.csl_nodes.specs.Date.{own_part, own_parts, part_content, joined_by, localized_node}
 use Rattle.csl_nodes.proofs.JoinedParts.{behind_delimiter, none_to_come, one_to_come, part_with, part_of, contents_of, parts_of, with_one_under, with_one_more}
 use Rattle.csl_nodes.proofs.date_parts.render_parts.Goals as goal
 

@@ -2,7 +2,7 @@ use Rattle.std.proofs.Common.{◌∙◌}
 use Rattle.csl_elements.specs.Dressing.{dressing_of}
 use Rattle.csl_context.specs.Bodies.{inside_body}
 use Rattle.csl_context.specs.State.{Inherited}
-use Rattle.csl_context.specs.ContextView.{with_content}
+use Rattle.csl_context.specs.Context.{with_content}
 use Rattle.csl_context.specs.Texts.{text_in}
 use Rattle.csl_context.proofs.BodyAround.{body_around, body_calls}
 use Rattle.csl_nodes.proofs.Dressings.{plain_attributes}

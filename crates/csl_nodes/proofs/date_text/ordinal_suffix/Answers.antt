@@ -3,7 +3,7 @@ use mir.Val.{SFits, to_z, of_z}
 use Rattle.std.proofs.lemmas.Int.{ints, to_z-of_z}
 use Rattle.std.specs.Prelude.{option_map, unwrap_or}
 use Rattle.csl_elements.specs.Locale.{ordinals_of}
-use Rattle.csl_elements.specs.Ordinal.{ordinals}
+use Rattle.csl_elements.specs.Ordinals.{ordinals}
 use Rattle.csl_nodes.proofs.date_text.ordinal_suffix.Goals as goal
 
 unwrap_now : (o : Option (Bor (List ℕ))) (other : Bor (List ℕ)) → (unwrap_or o other).now ≡ unwrap_or (option_map (λ t. t.now) o) other.now

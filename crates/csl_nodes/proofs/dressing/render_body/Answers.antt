@@ -4,7 +4,7 @@ use Rattle.csl_tree.specs.Content.{elem_content}
 use Rattle.csl_tree.specs.Tokens.{optional_meta}
 use Rattle.csl_context.specs.Bodies.{BodyAttributes, inside_body}
 use Rattle.csl_context.specs.State.{Inherited}
-use Rattle.csl_context.specs.ContextView.{with_content, with_part, close_part_by}
+use Rattle.csl_context.specs.Context.{with_content, with_part, close_part_by}
 use Rattle.csl_context.proofs.BodyAround.{body_around, body_calls}
 use Rattle.csl_context.proofs.Leaving.{and_then}
 use Rattle.csl_nodes.specs.Boxes.{body_in}

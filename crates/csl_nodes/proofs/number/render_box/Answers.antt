@@ -2,12 +2,12 @@ use Rattle.std.proofs.Common.{◌≡◌, false, Result, Ok, Err, ap, sym, subst,
 use Rattle.csl_elements.specs.Taxonomy.{term_of}
 use Rattle.csl_elements.specs.View.{view_number}
 use Rattle.csl_entry.specs.NumberResult.{number_or_page_view}
-use Rattle.csl_context.specs.ContextView.{ContextView, Runs, FailsAs, with_content}
+use Rattle.csl_context.specs.Context.{ContextView, Runs, FailsAs, with_content}
 use Rattle.csl_context.specs.declared.error.RenderError.{RenderError}
 use Rattle.csl_context.specs.RenderInput.{gender_in}
 use Rattle.csl_nodes.specs.NumberOrPage.{number_text_view, shown_in, number_node_text}
 use Rattle.csl_nodes.specs.Boxes.{in_plain, plain_box}
-use Rattle.csl_nodes.specs.Numbers.{number_meta}
+use Rattle.csl_nodes.specs.Number.{number_meta}
 use Rattle.csl_nodes.proofs.number.render_box.Goals as goal
 
 -- a call that changes a context by `f` changes an equal one by `h`, if both agree there

@@ -3,7 +3,7 @@ use Rattle.std.proofs.lemmas.Fmt.{contents_after_writes}
 use Rattle.lit_model.specs.Numeric.{numeric_view}
 use Rattle.lit_model.specs.NumericForm.{numeric_in_form}
 use Rattle.csl_elements.specs.Locale.{ordinals_of}
-use Rattle.csl_elements.specs.Ordinal.{ordinals, long_ordinals}
+use Rattle.csl_elements.specs.Ordinals.{ordinals, long_ordinals}
 use Rattle.csl_context.specs.RenderInput.{number_text}
 use Rattle.csl_nodes.proofs.number_or_page.number_text.Goals as goal
 

@@ -1,8 +1,8 @@
 use Rattle.std.proofs.Common.{◌≡◌, drop, map, option_map}
 use Rattle.csl_elements.specs.declared.element.Choose.{out-Choose}
 use Rattle.csl_elements.specs.View.{view_nodes, view_branch, view_choose, branches_of}
-use Rattle.csl_context.specs.ContextView.{render_input}
-use Rattle.csl_nodes.specs.Conditions.{chosen_nodes, chosen_children}
+use Rattle.csl_context.specs.Context.{render_input}
+use Rattle.csl_nodes.specs.Condition.{chosen_nodes, chosen_children}
 use Rattle.csl_render.proofs.choose.first_taken.Given as goal
 
 -- the remaining branches take the same nodes as all branches

@@ -2,7 +2,7 @@ use Rattle.std.proofs.Common.{option_map, subst, sym, ap, ◌∙◌}
 use Rattle.csl_elements.specs.Node.{expand_nodes}
 use Rattle.csl_elements.specs.View.{view_nodes}
 use Rattle.csl_style.specs.Expanded.{macro_env}
-use Rattle.csl_context.specs.ContextView.{render_input}
+use Rattle.csl_context.specs.Context.{render_input}
 use Rattle.csl_render.specs.Plan.{AreOfTaken}
 use Rattle.csl_render.specs.Tree.{choice_shows, choice_output}
 use Rattle.csl_render.proofs.Chosen.{shows_of_choice, tree_of_choice, some_within}

@@ -4,8 +4,8 @@ use Rattle.std.specs.Option.{option_copied}
 use Rattle.csl_style.specs.declared.style.settings.Scope.TheVariants.{Bibliography}
 use Rattle.csl_entry.specs.Cite.{cite_state}
 use Rattle.csl_nodes.specs.Text.{RenderOutput}
-use Rattle.csl_render.specs.CiteContent.{whole_cite, named_by, HoldsForAlike}
-use Rattle.csl_render.specs.PairOutput.{output_of}
+use Rattle.csl_render.specs.Cites.{whole_cite, named_by, HoldsForAlike}
+use Rattle.csl_render.specs.Pair.{output_of}
 use Rattle.csl_render.proofs.Theorems.{answers_decide}
 use Rattle.csl_render.proofs.cites.bibliography_entry.Goals as goal
 

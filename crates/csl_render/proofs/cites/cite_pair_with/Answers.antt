@@ -2,9 +2,9 @@ use Rattle.std.proofs.Common.{None, sym, subst, ◌∙◌}
 use Rattle.csl_elements.specs.NamedSet.{named_set}
 use Rattle.csl_style.specs.declared.style.settings.Scope.TheVariants.{Citation}
 use Rattle.csl_entry.specs.Cite.{cite_state}
-use Rattle.csl_context.specs.LeftState.{left_state_view}
-use Rattle.csl_render.specs.CiteContent.{named_by, Covers}
-use Rattle.csl_render.specs.PairOutput.{cite_input}
+use Rattle.csl_context.specs.State.{left_state_view}
+use Rattle.csl_render.specs.Cites.{named_by, Covers}
+use Rattle.csl_render.specs.Pair.{cite_input}
 use Rattle.csl_render.proofs.Pairs.{printed_same}
 use Rattle.csl_render.proofs.cites.cite_pair_with.Goals as goal
 

@@ -1,8 +1,8 @@
 use Rattle.std.proofs.Common.{◌≡◌, List, ℕ, string_bytes, subst, sym, ap, ◌∙◌}
-use Rattle.csl_tree.specs.Writing.{plain_text}
+use Rattle.csl_tree.specs.Write.{plain_text}
 use Rattle.csl_entry.specs.Cite.{cite_state}
 use Rattle.csl_nodes.specs.Text.{RenderOutput}
-use Rattle.csl_render.specs.CiteContent.{sort_key_text}
+use Rattle.csl_render.specs.Cites.{sort_key_text}
 use Rattle.csl_render.specs.SortedDates.{SortsByDate}
 use Rattle.csl_render.proofs.Theorems.{sort_keys_order_as_dates}
 use Rattle.csl_render.proofs.cites.sort_key.Goals as goal

@@ -2,7 +2,7 @@ use Rattle.std.proofs.Common.{ap, subst, ◌∙◌}
 use Rattle.csl_elements.specs.Node.{expand}
 use Rattle.csl_elements.specs.View.{view_node}
 use Rattle.csl_style.specs.Expanded.{macro_env}
-use Rattle.csl_context.specs.ContextView.{render_input}
+use Rattle.csl_context.specs.Context.{render_input}
 use Rattle.csl_render.specs.DryRun.{Adds}
 use Rattle.csl_render.specs.Plan.{dry_now, dry_view, IsInfo}
 use Rattle.csl_render.proofs.Plans.{asked}

@@ -1,7 +1,7 @@
 use Rattle.std.proofs.Common.{sym, ◌∙◌}
 use Rattle.csl_entry.specs.Cite.{cite_state}
-use Rattle.csl_context.specs.LeftState.{left_state_view}
-use Rattle.csl_render.specs.PairOutput.{cite_input}
+use Rattle.csl_context.specs.State.{left_state_view}
+use Rattle.csl_render.specs.Pair.{cite_input}
 use Rattle.csl_render.proofs.Pairs.{printed_same}
 use Rattle.csl_render.proofs.pair.render_pair.Goals as goal
 

@@ -2,7 +2,7 @@ use Rattle.std.proofs.Common.{[], ap, subst, ◌∙◌}
 use Rattle.csl_elements.specs.Node.{expand_nodes, expanded_macro}
 use Rattle.csl_elements.specs.View.{view_nodes, text_dressing}
 use Rattle.csl_style.specs.Expanded.{macro_env}
-use Rattle.csl_context.specs.ContextView.{render_input}
+use Rattle.csl_context.specs.Context.{render_input}
 use Rattle.csl_nodes.specs.Usage.{without_group_flag, macro_info}
 use Rattle.csl_render.specs.DryRun.{Adds, Run}
 use Rattle.csl_render.specs.Plan.{dry_now, dry_view, IsInfo, IsInfoOfNodes}

@@ -1,7 +1,7 @@
 use Rattle.std.proofs.Common.{◌≡◌, ◌++◌, length}
 use Rattle.csl_elements.specs.View.{definitions, view_nodes}
 use Rattle.csl_style.specs.AllNodes.{nodes_left}
-use Rattle.csl_style.specs.Calls.{calls_in_all}
+use Rattle.csl_style.specs.CallGraph.{calls_in_all}
 use Rattle.csl_style.proofs.AllNodesLaws.{calls_of}
 use Rattle.csl_style.proofs.call_graph.add_all_calls.Given as goal
 

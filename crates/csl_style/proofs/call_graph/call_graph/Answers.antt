@@ -2,7 +2,7 @@ use Rattle.std.proofs.Common.{◌≡◌, ◌++◌, List, [], ◌∷◌, length, 
 use Rattle.std.proofs.lemmas.Grind.{common_steps}
 use Rattle.csl_elements.specs.declared.element.CslMacro.{CslMacro}
 use Rattle.csl_elements.specs.View.{definitions, view_nodes}
-use Rattle.csl_style.specs.Calls.{calls_in_all, children_at}
+use Rattle.csl_style.specs.CallGraph.{calls_in_all, children_at}
 use Rattle.csl_style.proofs.Called.{rows-more, in-range, children-read, length-definitions}
 use Rattle.csl_style.proofs.call_graph.call_graph.Goals as goal
 

@@ -1,7 +1,7 @@
 use Rattle.std.proofs.Common.{◌≡◌, ℕ, ◌<◌, length}
-use Rattle.csl_style.specs.GraphReach.{row_at}
+use Rattle.csl_style.specs.Cycles.{row_at}
 use Rattle.csl_elements.specs.View.{definitions}
-use Rattle.csl_style.specs.Calls.{calls_in_all, children_at}
+use Rattle.csl_style.specs.CallGraph.{calls_in_all, children_at}
 use Rattle.csl_style.proofs.call_graph.call_graph.Given as goal
 
 abbrev pub invariant-loop-m : goal.invariant-loop-m

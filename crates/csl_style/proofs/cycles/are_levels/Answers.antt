@@ -1,6 +1,6 @@
 use Rattle.std.proofs.Common.{◌≡◌, ◌<◌, length, sym, ◌∙◌, subst, arith, Contains}
 use Rattle.std.proofs.lemmas.Grind.{common_steps}
-use Rattle.csl_style.specs.GraphReach.{row_at}
+use Rattle.csl_style.specs.Cycles.{row_at}
 use Rattle.csl_style.proofs.Edges.{row-read}
 use Rattle.csl_style.proofs.Falling.{stays-along, stays-more, all-stay}
 use Rattle.csl_style.proofs.cycles.are_levels.Goals as goal

@@ -1,7 +1,7 @@
 use Rattle.std.proofs.Common.{◌≡◌, ◌<◌, length, true, false, arith}
 use Rattle.std.proofs.lemmas.Grind.{common_steps}
 use Rattle.std.proofs.lemmas.List.{get_or_read}
-use Rattle.csl_style.specs.GraphReach.{is_marked}
+use Rattle.csl_style.specs.Cycles.{is_marked}
 use Rattle.csl_style.proofs.Ranking.{reaches-not, ranks-from}
 use Rattle.csl_style.proofs.cycles.first_by_searches.Goals as goal
 

@@ -1,7 +1,7 @@
 use Rattle.std.proofs.Common.{◌≡◌, ◌<◌, length, true, false, arith, rules}
 use Rattle.std.proofs.lemmas.Grind.{common_steps}
 use Rattle.std.proofs.lemmas.List.{get_or_read}
-use Rattle.csl_style.specs.GraphReach.{is_marked, ArePlaceLevels}
+use Rattle.csl_style.specs.Cycles.{is_marked, ArePlaceLevels}
 use Rattle.csl_style.proofs.Falling.{leads-not-back}
 use Rattle.csl_style.proofs.cycles.first_cyclic.Goals as goal
 

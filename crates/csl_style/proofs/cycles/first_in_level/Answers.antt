@@ -1,5 +1,5 @@
 use Rattle.std.proofs.Common.{◌≡◌, ◌<◌, length, sym, ◌∙◌, subst, arith, Contains}
-use Rattle.csl_style.specs.GraphReach.{row_at}
+use Rattle.csl_style.specs.Cycles.{row_at}
 use Rattle.csl_style.proofs.Edges.{row-read}
 use Rattle.csl_style.proofs.Falling.{along-all, falls-more, all-fall}
 use Rattle.csl_style.proofs.cycles.first_in_level.Goals as goal

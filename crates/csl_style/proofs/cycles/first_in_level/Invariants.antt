@@ -1,5 +1,5 @@
 use Rattle.std.proofs.Common.{ℕ, ◌<◌}
-use Rattle.csl_style.specs.GraphReach.{Falls}
+use Rattle.csl_style.specs.Cycles.{Falls}
 use Rattle.csl_style.proofs.Falling.{FallsAlong}
 use Rattle.csl_style.proofs.cycles.first_in_level.Given as goal
 

@@ -1,7 +1,7 @@
 use Rattle.std.proofs.Common.{◌≡◌, ◌<◌, [], ◌∷◌, ◌++◌, length, slice_index, set, replicate, true, false, Contains, sym, ap, ◌∙◌, subst, arith, rules, get_or-set_same}
 use Rattle.std.proofs.lemmas.Grind.{common_steps}
 use Rattle.std.proofs.lemmas.List.{get_or_read}
-use Rattle.csl_style.specs.GraphReach.{row_at, HasEdge, is_marked}
+use Rattle.csl_style.specs.Cycles.{row_at, HasEdge, is_marked}
 use Rattle.csl_style.proofs.Marks.{marks-le, still-marked, first-marked-more}
 use Rattle.csl_style.proofs.Edges.{edge-within, row-read, edge-read, row-marked}
 use Rattle.csl_style.proofs.Searching.{start, add, followed, done, before-push, unfinished-push}

@@ -3,7 +3,7 @@ use Rattle.std.proofs.lemmas.Grind.{common_steps}
 use Rattle.csl_elements.specs.declared.locale.OrdinalTerm.{OrdinalTerm}
 use Rattle.csl_elements.specs.declared.locale.Locale.{Locale}
 use Rattle.csl_elements.specs.Locale.{ordinal_view, ordinals_of}
-use Rattle.csl_elements.specs.Ordinal.{first_ordinals}
+use Rattle.csl_elements.specs.Ordinals.{first_ordinals}
 use Rattle.csl_style.specs.FirstOrdinals.{AreFoundAs}
 use Rattle.csl_style.proofs.OrdinalTwins.{same_ordinals, of_alone, of_first}
 use Rattle.csl_style.proofs.first_ordinals.first_ordinals.Goals as goal

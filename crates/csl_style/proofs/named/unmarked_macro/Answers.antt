@@ -4,7 +4,7 @@ use Rattle.std.proofs.lemmas.List.{get_or_read}
 use Rattle.csl_elements.specs.View.{definitions, view_node}
 use Rattle.csl_style.specs.AllNodes.{called_name}
 use Rattle.csl_style.specs.Expansion.{macro_index}
-use Rattle.csl_style.specs.GraphReach.{is_marked}
+use Rattle.csl_style.specs.Cycles.{is_marked}
 use Rattle.csl_style.proofs.Called.{length-definitions, place-is}
 use Rattle.csl_style.proofs.NamedWalks.{first_call, found_macro, marked_called, nodes_of_macro, one_called}
 use Rattle.csl_style.proofs.named.unmarked_macro.Goals as goal

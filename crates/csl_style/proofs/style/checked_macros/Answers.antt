@@ -1,9 +1,9 @@
 use Rattle.std.proofs.Common.{◌≡◌, ◌<◌, List, None, IfSome, length, string_bytes, sym, ap, ◌∙◌, subst, arith, rules}
-use Rattle.csl_style.specs.GraphReach.{Graph, HasRanks, IsFirstCyclicPlace}
+use Rattle.csl_style.specs.Cycles.{Graph, HasRanks, IsFirstCyclicPlace}
 use Rattle.csl_elements.specs.declared.element.CslMacro.{CslMacro}
 use Rattle.csl_elements.specs.View.{definitions}
-use Rattle.csl_style.specs.Calls.{IsCallGraph, name_at}
-use Rattle.csl_style.specs.Cyclic.{IsFirstCyclic}
+use Rattle.csl_style.specs.CallGraph.{IsCallGraph, name_at}
+use Rattle.csl_style.specs.Style.{IsFirstCyclic}
 use Rattle.csl_style.proofs.Called.{name-read, length-definitions}
 use Rattle.csl_style.proofs.CallGraph.{first-cyclic, acyclic}
 use Rattle.csl_style.proofs.Returns.{none-returns}

@@ -1,5 +1,5 @@
 use Rattle.std.proofs.Common.{◌≡◌, map, drop}
-use Rattle.csl_tree.specs.NamesSearch.{names_find, first_found, find_of_child}
+use Rattle.csl_tree.specs.FindNames.{names_find, first_found, find_of_child}
 use Rattle.csl_tree.proofs.elem.+find.Given as goal
 
 abbrev pub invariant-ElemChildren::names_at-loop-i : goal.invariant-ElemChildren::names_at-loop-i

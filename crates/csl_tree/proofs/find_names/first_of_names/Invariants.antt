@@ -1,5 +1,5 @@
 use Rattle.std.proofs.Common.{◌≡◌, ◌+◌, true, drop}
-use Rattle.csl_tree.specs.NamesSearch.{here_index, any_is_here}
+use Rattle.csl_tree.specs.FindNames.{here_index, any_is_here}
 use Rattle.csl_tree.proofs.find_names.first_of_names.Given as goal
 
 abbrev pub invariant-loop-i : goal.invariant-loop-i

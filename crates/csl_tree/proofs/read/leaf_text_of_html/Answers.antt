@@ -1,6 +1,6 @@
 use Rattle.std.proofs.Common.{rules, ◌≡◌, true, reverse, refl, sym, subst, ◌∙◌}
 use Rattle.std.specs.Prelude.{string_bytes, Some, None}
-use Rattle.csl_tree.specs.Reading.{IsReadTo, within_after_mark}
+use Rattle.csl_tree.specs.Read.{IsReadTo, within_after_mark}
 use Rattle.csl_tree.proofs.ReadSoFar.{read_mark, read_all, refuse_mark, refuse_rest, mark_shortens, fits, fits_not, one_text}
 use Rattle.csl_tree.proofs.Theorems.{html_has_one_text}
 use Rattle.csl_tree.proofs.read.leaf_text_of_html.Goals as goal

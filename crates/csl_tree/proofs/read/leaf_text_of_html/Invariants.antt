@@ -2,7 +2,7 @@ use Rattle.std.proofs.Common.{length}
 use Rattle.std.specs.Prelude.{string_bytes, reverse}
 use denote.Text.{Utf8}
 use denote.Shadow.{shadow}
-use Rattle.csl_tree.specs.Reading.{IsReadTo}
+use Rattle.csl_tree.specs.Read.{IsReadTo}
 use Rattle.csl_tree.proofs.read.leaf_text_of_html.Given as goal
 
 abbrev pub invariant-loop-mark : goal.invariant-loop-mark

@@ -1,7 +1,7 @@
 use Rattle.std.proofs.Common.{◌≡◌, ℕ, Some, None, Ok, Err, refl, chars, rules}
 use Rattle.std.specs.Char.{is_ascii_digit}
 use Rattle.std.proofs.lemmas.Int.{ints, to_z-of_z}
-use Rattle.lit_model.specs.NumericReading.{longest_prefix, integer_from, integer_at}
+use Rattle.lit_model.specs.NumericParse.{longest_prefix, integer_from, integer_at}
 use Rattle.lit_model.proofs.Integers.{Only-front, integer_parsed}
 use Rattle.lit_model.proofs.scan.integer.Goals as goal
 

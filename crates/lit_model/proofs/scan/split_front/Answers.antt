@@ -1,7 +1,7 @@
 use Rattle.std.proofs.Common.{◌≡◌, ℕ, true, List, ◌∷◌, ◌++◌, length, take, chars, encode_utf8, encode_utf8_all, sym, ap, ◌∙◌, append_assoc, arith, rules, ◌-◌}
 use Rattle.std.proofs.lemmas.Str.{IsCharBoundary-at_seam}
 use Rattle.std.proofs.lemmas.List.{length-take}
-use Rattle.lit_model.specs.NumericReading.{longest_prefix, after_longest_prefix}
+use Rattle.lit_model.specs.NumericParse.{longest_prefix, after_longest_prefix}
 use Rattle.lit_model.specs.Scan.{passes}
 use Rattle.lit_model.proofs.Fronts.{take_grown, whole_grown, front-cons_yes, after-cons_yes}
 use Rattle.lit_model.proofs.scan.split_front.Goals as goal

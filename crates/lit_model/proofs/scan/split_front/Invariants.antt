@@ -1,7 +1,7 @@
 use Rattle.std.proofs.Common.{◌≡◌, ◌≤◌, ◌++◌, length, take, chars, encode_utf8_all, ◌-◌}
 use denote.Text.{Utf8}
 use denote.Shadow.{shadow}
-use Rattle.lit_model.specs.NumericReading.{longest_prefix, after_longest_prefix}
+use Rattle.lit_model.specs.NumericParse.{longest_prefix, after_longest_prefix}
 use Rattle.lit_model.specs.Scan.{passes}
 use Rattle.lit_model.proofs.scan.split_front.Given as goal
 

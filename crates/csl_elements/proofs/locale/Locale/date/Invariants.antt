@@ -1,6 +1,6 @@
 use Rattle.std.proofs.Common.{◌≡◌, drop}
 use Rattle.std.specs.Prelude.{find}
-use Rattle.csl_elements.specs.Date.{is_in_form}
+use Rattle.csl_elements.specs.Lookup.{is_in_form}
 use Rattle.csl_elements.proofs.locale.Locale.date.Given as goal
 
 abbrev pub invariant-loop-date : goal.invariant-loop-date

@@ -1,6 +1,6 @@
 use Rattle.std.proofs.Common.{◌≡◌, map, drop}
 use Rattle.csl_elements.specs.Locale.{ordinal_view}
-use Rattle.csl_elements.specs.Ordinal.{is_in_group, for_gender}
+use Rattle.csl_elements.specs.Ordinals.{is_in_group, for_gender}
 use Rattle.csl_elements.proofs.locale.ordinals.first_for_gender.Given as goal
 
 abbrev pub invariant-loop-ordinal : goal.invariant-loop-ordinal

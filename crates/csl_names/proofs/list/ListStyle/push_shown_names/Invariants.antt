@@ -2,7 +2,7 @@ use Rattle.std.proofs.Common.{◌≡◌, drop, map, false}
 use Rattle.std.specs.Cow.{cow_value}
 use Rattle.lit_model.specs.Person.{person_view}
 use Rattle.csl_names.specs.Piece.{with_pieces}
-use Rattle.csl_names.specs.NameList.{names_from}
+use Rattle.csl_names.specs.List.{names_from}
 use Rattle.csl_names.specs.ListStyles.{list_style_view}
 use Rattle.csl_names.proofs.list.ListStyle.push_shown_names.Given as goal
 

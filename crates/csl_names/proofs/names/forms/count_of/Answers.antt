@@ -1,9 +1,9 @@
 use Rattle.std.proofs.Common.{◌≡◌, ◌+◌, ◌∷◌, drop, map, length, sym, ap, ◌∙◌, arith}
 use Rattle.std.proofs.lemmas.List.{at_drop_more}
 use Rattle.std.proofs.lemmas.Grind.{common_steps}
-use Rattle.csl_elements.specs.NameOptions.{complete_options}
+use Rattle.csl_elements.specs.NamesOptions.{complete_options}
 use Rattle.csl_names.specs.NamesForms.{count_of, saturated_count, shown_count}
-use Rattle.csl_names.specs.PersonLists.{list_of}
+use Rattle.csl_names.specs.NamesLists.{list_of}
 use Rattle.csl_names.proofs.Counts.{capped, twice}
 use Rattle.csl_names.proofs.names.forms.count_of.Goals as goal
 

@@ -1,7 +1,7 @@
 use Rattle.std.proofs.Common.{◌≡◌, ◌+◌, map, drop}
-use Rattle.csl_elements.specs.NameOptions.{complete_options}
+use Rattle.csl_elements.specs.NamesOptions.{complete_options}
 use Rattle.csl_names.specs.NamesForms.{count_of, saturated_count}
-use Rattle.csl_names.specs.PersonLists.{list_of}
+use Rattle.csl_names.specs.NamesLists.{list_of}
 use Rattle.csl_names.proofs.names.forms.count_of.Given as goal
 
 -- the count so far is within the limit; with that of the remaining lists, it is the count of all

@@ -1,7 +1,7 @@
 use Rattle.std.proofs.Common.{◌≡◌, map, take}
-use Rattle.csl_elements.specs.NameOptions.{complete_options}
+use Rattle.csl_elements.specs.NamesOptions.{complete_options}
 use Rattle.csl_names.specs.NamesForms.{default_forms}
-use Rattle.csl_names.specs.PersonLists.{list_of}
+use Rattle.csl_names.specs.NamesLists.{list_of}
 use Rattle.csl_names.proofs.names.forms.default_forms.Given as goal
 
 abbrev pub invariant-loop-list : goal.invariant-loop-list

@@ -2,7 +2,7 @@ use Rattle.std.proofs.Common.{◌≡◌, drop, map, if◌then◌else◌}
 use Rattle.std.specs.List.{list_all}
 use Rattle.csl_elements.specs.View.{view_child, name_children}
 use Rattle.csl_names.specs.NamesForms.{each_hides, name_hides}
-use Rattle.csl_names.specs.PersonLists.{list_of}
+use Rattle.csl_names.specs.NamesLists.{list_of}
 use Rattle.csl_names.proofs.names.forms.each_hides.Given as goal
 
 -- The result for the remaining children is that for all. After a name child, each of the remaining

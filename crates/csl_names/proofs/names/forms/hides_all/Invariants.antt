@@ -1,6 +1,6 @@
 use Rattle.std.proofs.Common.{◌≡◌, drop, map, length, nat_le}
 use Rattle.std.specs.List.{list_all}
-use Rattle.csl_names.specs.PersonLists.{list_of}
+use Rattle.csl_names.specs.NamesLists.{list_of}
 use Rattle.csl_names.proofs.names.forms.hides_all.Given as goal
 
 -- the result for the remaining lists is that for all

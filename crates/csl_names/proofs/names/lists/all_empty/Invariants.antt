@@ -1,6 +1,5 @@
 use Rattle.std.proofs.Common.{◌≡◌, drop, map}
-use Rattle.csl_names.specs.NamesLists.{all_empty}
-use Rattle.csl_names.specs.PersonLists.{list_of}
+use Rattle.csl_names.specs.NamesLists.{all_empty, list_of}
 use Rattle.csl_names.proofs.names.lists.all_empty.Given as goal
 
 -- the result for the remaining lists is that for all

@@ -1,7 +1,6 @@
 use Rattle.std.proofs.Common.{◌≡◌, false, drop, map, ◌++◌}
-use Rattle.csl_context.specs.ContextView.{render_input}
-use Rattle.csl_names.specs.NamesLists.{each_resolved, state_after_resolve_all}
-use Rattle.csl_names.specs.PersonLists.{list_of}
+use Rattle.csl_context.specs.Context.{render_input}
+use Rattle.csl_names.specs.NamesLists.{each_resolved, state_after_resolve_all, list_of}
 use Rattle.csl_names.proofs.names.lists.each_resolved.Given as goal
 
 -- the lists so far, with those of the remaining variables in the present state, are all lists

@@ -1,5 +1,5 @@
 use Rattle.std.proofs.Common.{◌≡◌, drop}
-use Rattle.csl_context.specs.ContextView.{render_input}
+use Rattle.csl_context.specs.Context.{render_input}
 use Rattle.csl_names.specs.NamesLists.{all_empty, peeked_lists}
 use Rattle.csl_names.proofs.names.lists.no_persons.Given as goal
 

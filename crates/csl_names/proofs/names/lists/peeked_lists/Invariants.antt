@@ -1,7 +1,6 @@
 use Rattle.std.proofs.Common.{◌≡◌, drop, map, ◌++◌}
-use Rattle.csl_context.specs.ContextView.{render_input}
-use Rattle.csl_names.specs.NamesLists.{peeked_lists}
-use Rattle.csl_names.specs.PersonLists.{list_of}
+use Rattle.csl_context.specs.Context.{render_input}
+use Rattle.csl_names.specs.NamesLists.{peeked_lists, list_of}
 use Rattle.csl_names.proofs.names.lists.peeked_lists.Given as goal
 
 -- the lists so far, with those of the remaining variables, are all lists

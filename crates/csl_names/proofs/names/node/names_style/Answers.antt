@@ -1,9 +1,9 @@
 use Rattle.std.proofs.Common.{◌≡◌, option_map, ap, ◌∙◌, rules}
 use Rattle.std.specs.Option.{option_or, unwrap_or}
 use Rattle.csl_elements.specs.Names.{NameNode, view_name, view_et_al}
-use Rattle.csl_elements.specs.NameOptions.{inherited_options, apply_options, with_defaults, names_delimiter_of}
+use Rattle.csl_elements.specs.NamesOptions.{inherited_options, apply_options, with_defaults, names_delimiter_of}
 use Rattle.csl_elements.specs.NamesParts.{parts_node, default_name, default_et_al}
-use Rattle.csl_names.specs.NamesContent.{name_of}
+use Rattle.csl_names.specs.NamesNode.{name_of}
 use Rattle.csl_elements.proofs.Options.{map-or, map-unwrap}
 use Rattle.csl_names.proofs.names.node.names_style.Goals as goal
 

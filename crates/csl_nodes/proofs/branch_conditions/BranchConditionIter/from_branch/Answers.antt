@@ -1,4 +1,4 @@
-use Rattle.csl_context.specs.ContextView.{render_input}
+use Rattle.csl_context.specs.Context.{render_input}
 use Rattle.csl_nodes.proofs.Readings.{all_left}
 use Rattle.csl_nodes.proofs.branch_conditions.BranchConditionIter.from_branch.Goals as goal
 

@@ -1,6 +1,6 @@
 use Rattle.std.proofs.Common.{◌≡◌, length, false}
-use Rattle.csl_context.specs.ContextView.{render_input}
-use Rattle.csl_nodes.specs.RemainingConditions.{arms_from, conditions_from, tests_of}
+use Rattle.csl_context.specs.Context.{render_input}
+use Rattle.csl_nodes.specs.BranchConditions.{arms_from, conditions_from, tests_of}
 use Rattle.csl_nodes.proofs.branch_conditions.BranchConditionIterIterator.next.Given as goal
 
 -- the remaining conditions are unchanged

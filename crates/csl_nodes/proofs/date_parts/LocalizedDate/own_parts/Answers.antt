@@ -1,4 +1,4 @@
-use Rattle.csl_nodes.specs.Dates.{own_part, own_parts}
+use Rattle.csl_nodes.specs.Date.{own_part, own_parts}
 use Rattle.csl_nodes.proofs.JoinedParts.{each_named}
 use Rattle.csl_nodes.proofs.date_parts.LocalizedDate.own_parts.Goals as goal
 

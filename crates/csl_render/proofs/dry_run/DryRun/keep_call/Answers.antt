@@ -1,5 +1,5 @@
 use Rattle.std.proofs.Common.{ℕ, Some}
-use Rattle.csl_context.specs.ContextView.{render_input}
+use Rattle.csl_context.specs.Context.{render_input}
 use Rattle.csl_render.specs.declared.plan.NodeInfo.{NodeInfo}
 use Rattle.csl_render.specs.DryRun.{IsCallInfo, nodes_at}
 use Rattle.csl_render.specs.Plan.{dry_now}

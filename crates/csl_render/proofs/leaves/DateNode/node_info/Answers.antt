@@ -2,8 +2,8 @@ use Rattle.std.proofs.Common.{sym, ap, subst, ◌∙◌}
 use Rattle.std.specs.Prelude.{not}
 use Rattle.csl_elements.specs.Node.{date}
 use Rattle.csl_elements.specs.View.{view_date}
-use Rattle.csl_context.specs.ContextView.{render_input}
-use Rattle.csl_nodes.specs.Dates.{date_info}
+use Rattle.csl_context.specs.Context.{render_input}
+use Rattle.csl_nodes.specs.Date.{date_info}
 use Rattle.csl_render.specs.Expanded.{expanded}
 use Rattle.csl_render.specs.Plan.{AreAlikeOn, dry_now}
 use Rattle.csl_render.proofs.NoAuthor.{no_date_shows}

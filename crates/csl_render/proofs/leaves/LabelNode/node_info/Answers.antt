@@ -2,8 +2,8 @@ use Rattle.std.proofs.Common.{refl, subst, sym, ap, ◌∙◌}
 use Rattle.csl_elements.specs.Names.{view_label}
 use Rattle.csl_elements.specs.Node.{label}
 use Rattle.csl_elements.specs.Taxonomy.{variable_of}
-use Rattle.csl_context.specs.ContextView.{render_input}
-use Rattle.csl_nodes.specs.Labels.{label_info}
+use Rattle.csl_context.specs.Context.{render_input}
+use Rattle.csl_nodes.specs.Label.{label_info}
 use Rattle.csl_render.specs.Expanded.{expanded}
 use Rattle.csl_elements.specs.VariableSet.{Has}
 use Rattle.csl_render.proofs.Plans.{leaf}

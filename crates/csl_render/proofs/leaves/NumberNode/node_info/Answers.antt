@@ -2,8 +2,8 @@ use Rattle.std.proofs.Common.{subst, sym, ap, ◌∙◌}
 use Rattle.csl_elements.specs.Node.{number}
 use Rattle.csl_elements.specs.View.{view_number}
 use Rattle.csl_elements.specs.Taxonomy.{variable_of}
-use Rattle.csl_context.specs.ContextView.{render_input}
-use Rattle.csl_nodes.specs.Numbers.{number_info}
+use Rattle.csl_context.specs.Context.{render_input}
+use Rattle.csl_nodes.specs.Number.{number_info}
 use Rattle.csl_render.specs.Expanded.{expanded}
 use Rattle.csl_elements.specs.VariableSet.{Has}
 use Rattle.csl_render.proofs.NoAuthor.{no_number_shows}

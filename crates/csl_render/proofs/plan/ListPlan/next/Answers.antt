@@ -1,4 +1,4 @@
-use Rattle.csl_context.specs.ContextView.{render_input}
+use Rattle.csl_context.specs.Context.{render_input}
 use Rattle.csl_render.specs.Plan.{dry_view}
 use Rattle.csl_render.proofs.Plans.{unplanned}
 use Rattle.csl_render.proofs.plan.ListPlan.next.Goals as goal

@@ -3,7 +3,7 @@ use Rattle.std.specs.Prelude.{FitsSigned}
 use Rattle.std.specs.Int.{w32}
 use Rattle.std.proofs.lemmas.Int.{to_z-of_z}
 use Rattle.csl_elements.specs.Locale.{ordinals_of}
-use Rattle.csl_elements.specs.Ordinal.{ordinals}
+use Rattle.csl_elements.specs.Ordinals.{ordinals}
 use Rattle.csl_elements.specs.declared.locale.Locale.{Locale}
 use Rattle.csl_style.proofs.style.Style.ordinal.Goals as goal
 

@@ -46,7 +46,7 @@ use Rattle.std.specs.declared.alloc.Global.{Global}
 use Rattle.csl_tree.specs.contracts.elem.ElemChildren as children
 use Rattle.csl_tree.specs.contracts.elem.ElemChild as child
 use Rattle.csl_tree.specs.Places.{children_of, with_children, child_at, put_child, items_row}
-use Rattle.csl_tree.specs.NamesSearch.{names_index, names_below, names_path, names_items, put_names_items}
+use Rattle.csl_tree.specs.FindNames.{names_index, names_below, names_path, names_items, put_names_items}
 use Rattle.csl_tree.proofs.Walks.{made}
 use Rattle.csl_tree.proofs.NamesPlace.{reached_down, reached_here, put_items_here, put_items_further, items_with, has_children, shorter}
 use Rattle.csl_tree.specs.contracts.elem.ElemChildren.names_items_mut as f

@@ -1,6 +1,6 @@
 use Rattle.std.proofs.Common.{◌≡◌, false, Option, Some, None, is_some, refl, sym, ap, ◌∙◌}
 use Rattle.std.specs.Prelude.{IfNone}
-use Rattle.csl_tree.specs.NamesSearch.{names_find, elem_at}
+use Rattle.csl_tree.specs.FindNames.{names_find, elem_at}
 use Rattle.csl_tree.proofs.NamesFirst.{first_is}
 use Rattle.csl_tree.proofs.elem.ElemChildren.find_names_mut.Goals as goal
 

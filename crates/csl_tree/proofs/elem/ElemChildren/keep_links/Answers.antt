@@ -3,7 +3,7 @@ use Rattle.std.specs.Fn.{CalledAt}
 use Rattle.std.specs.List.{list_all}
 use Rattle.csl_tree.specs.Links.{addresses}
 use Rattle.csl_tree.specs.Tokens.{tokens, token_text}
-use Rattle.csl_tree.specs.Writing.{plain_of}
+use Rattle.csl_tree.specs.Write.{plain_of}
 use Rattle.csl_tree.proofs.KeptLinks.{kept_filtered, kept_gives, kept_by, all_allowed}
 use Rattle.csl_tree.proofs.elem.ElemChildren.keep_links.Goals as goal
 

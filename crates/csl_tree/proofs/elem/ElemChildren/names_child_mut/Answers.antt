@@ -1,6 +1,6 @@
 use Rattle.std.proofs.Common.{◌≡◌, refl, ap, arith}
 use Rattle.csl_tree.specs.Places.{put_child, no_child}
-use Rattle.csl_tree.specs.NamesSearch.{names_index}
+use Rattle.csl_tree.specs.FindNames.{names_index}
 use Rattle.csl_tree.proofs.Walks.{at_index}
 use Rattle.csl_tree.proofs.NamesPlace.{index_is}
 use Rattle.csl_tree.proofs.elem.ElemChildren.names_child_mut.Goals as goal

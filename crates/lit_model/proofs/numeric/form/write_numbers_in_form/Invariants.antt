@@ -1,6 +1,6 @@
 use Rattle.std.proofs.Common.{◌≡◌, take}
 use Rattle.std.specs.Fmt.{WritesInCalls}
-use Rattle.lit_model.specs.NumericText.{numbers_text}
+use Rattle.lit_model.specs.NumericWrite.{numbers_text}
 use Rattle.lit_model.specs.NumericForm.{form_text}
 use Rattle.lit_model.proofs.numeric.form.write_numbers_in_form.Given as goal
 

@@ -1,6 +1,6 @@
 use Rattle.std.proofs.Common.{◌≡◌, ◌-◌, ◌+◌, [], ◌∷◌, ◌++◌, Some, None, chars, sym, ap, ◌∙◌, rules}
 use Rattle.std.proofs.lemmas.Int.{ints, to_z-of_z}
-use Rattle.lit_model.specs.NumericReading.{integers_at, integer_at, delimiter_at}
+use Rattle.lit_model.specs.NumericParse.{integers_at, integer_at, delimiter_at}
 use Rattle.lit_model.proofs.Loops.{Numbers, with_front, numbers_turn, gone_integer, gone_delimiter, last_integer}
 use Rattle.lit_model.proofs.numeric.parse.integers.Goals as goal
 

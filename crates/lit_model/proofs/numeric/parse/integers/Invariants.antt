@@ -1,7 +1,7 @@
 use Rattle.std.proofs.Common.{◌≡◌, ◌-◌, chars}
 use denote.Text.{Utf8}
 use denote.Shadow.{shadow}
-use Rattle.lit_model.specs.NumericReading.{read_of, integers_at}
+use Rattle.lit_model.specs.NumericParse.{read_of, integers_at}
 use Rattle.lit_model.proofs.Loops.{with_front}
 use Rattle.lit_model.proofs.numeric.parse.integers.Given as goal
 

@@ -1,7 +1,7 @@
 use Rattle.std.proofs.Common.{◌≡◌, ℕ, true, false, List, Some, None, chars, encode_utf8_all, sym, ap, ◌∙◌, rules}
 use Rattle.std.specs.Char.{is_whitespace}
 use Rattle.lit_model.specs.Numeric.{is_affix}
-use Rattle.lit_model.specs.NumericReading.{rest_of, longest_prefix, after_longest_prefix, integers_at, is_blank}
+use Rattle.lit_model.specs.NumericParse.{rest_of, longest_prefix, after_longest_prefix, integers_at, is_blank}
 use Rattle.lit_model.proofs.Shapes.{numbers_of, shape_none, shape_unended, shape_some, shape_made}
 use Rattle.lit_model.proofs.numeric.parse.shape_of.Goals as goal
 

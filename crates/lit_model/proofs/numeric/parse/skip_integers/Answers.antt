@@ -1,5 +1,5 @@
 use Rattle.std.proofs.Common.{◌≡◌, None, chars, sym, ap, ◌∙◌, rules}
-use Rattle.lit_model.specs.NumericReading.{rest_of, integer_at, delimiter_at}
+use Rattle.lit_model.specs.NumericParse.{rest_of, integer_at, delimiter_at}
 use Rattle.lit_model.proofs.Loops.{rest_turn, gone_integer, gone_delimiter, last_integer}
 use Rattle.lit_model.proofs.numeric.parse.skip_integers.Goals as goal
 

@@ -1,7 +1,7 @@
 use Rattle.std.proofs.Common.{◌≡◌, ◌-◌, chars}
 use denote.Text.{Utf8}
 use denote.Shadow.{shadow}
-use Rattle.lit_model.specs.NumericReading.{rest_of, integers_at}
+use Rattle.lit_model.specs.NumericParse.{rest_of, integers_at}
 use Rattle.lit_model.proofs.numeric.parse.skip_integers.Given as goal
 
 abbrev pub invariant-loop : goal.invariant-loop

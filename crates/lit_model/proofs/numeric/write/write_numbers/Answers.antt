@@ -3,7 +3,7 @@ use Rattle.std.specs.Prelude.{FitsSigned}
 use Rattle.std.specs.Int.{w32}
 use Rattle.std.proofs.lemmas.Int.{to_z-of_z}
 use Rattle.std.proofs.lemmas.Grind.{common_steps}
-use Rattle.lit_model.specs.NumericText.{integer_text}
+use Rattle.lit_model.specs.NumericWrite.{integer_text}
 use Rattle.csl_common.proofs.Writes.{three_writes}
 use Rattle.lit_model.proofs.Texts.{numbers_text-more}
 use Rattle.lit_model.proofs.numeric.write.write_numbers.Goals as goal

@@ -1,6 +1,6 @@
 use Rattle.std.proofs.Common.{◌≡◌, take}
 use Rattle.std.specs.Fmt.{WritesInCalls}
-use Rattle.lit_model.specs.NumericText.{integer_text, numbers_text}
+use Rattle.lit_model.specs.NumericWrite.{integer_text, numbers_text}
 use Rattle.lit_model.proofs.numeric.write.write_numbers.Given as goal
 
 -- so far the sink took the numbers before this one, and no refusal is new

@@ -1,8 +1,7 @@
 use Rattle.std.proofs.Common.{◌≡◌, ◌-◌, ◌+◌, [], ◌∷◌, ◌++◌, Some, None, chars, sym, ap, ◌∙◌, rules}
 use Rattle.std.proofs.lemmas.List.{map_push}
 use Rattle.lit_model.specs.Page.{PartView, part_view, parts_view}
-use Rattle.lit_model.specs.PageReading.{parts_at, item_at, separator_at}
-use Rattle.lit_model.specs.PageParsing.{item_of}
+use Rattle.lit_model.specs.PageParse.{parts_at, item_at, separator_at, item_of}
 use Rattle.lit_model.proofs.PageLoops.{Parts, with_front, parts_turn, gone_item, gone_separator, last_item}
 use Rattle.lit_model.proofs.page.parse.parts.Goals as goal
 

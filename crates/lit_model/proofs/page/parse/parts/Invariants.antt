@@ -1,9 +1,9 @@
 use Rattle.std.proofs.Common.{◌≡◌, ◌-◌, chars}
 use denote.Text.{Utf8}
 use denote.Shadow.{shadow}
-use Rattle.lit_model.specs.NumericReading.{read_of}
+use Rattle.lit_model.specs.NumericParse.{read_of}
 use Rattle.lit_model.specs.Page.{parts_view}
-use Rattle.lit_model.specs.PageReading.{parts_at}
+use Rattle.lit_model.specs.PageParse.{parts_at}
 use Rattle.lit_model.proofs.PageLoops.{with_front}
 use Rattle.lit_model.proofs.page.parse.parts.Given as goal
 

@@ -1,6 +1,6 @@
 use Rattle.std.proofs.Common.{◌≡◌, None, chars, sym, ap, ◌∙◌, rules}
-use Rattle.lit_model.specs.NumericReading.{rest_of}
-use Rattle.lit_model.specs.PageReading.{item_at, separator_at}
+use Rattle.lit_model.specs.NumericParse.{rest_of}
+use Rattle.lit_model.specs.PageParse.{item_at, separator_at}
 use Rattle.lit_model.proofs.PageLoops.{rest_turn, gone_item, gone_separator, last_item}
 use Rattle.lit_model.proofs.page.parse.skip_parts.Goals as goal
 

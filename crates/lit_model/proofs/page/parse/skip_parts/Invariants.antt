@@ -1,8 +1,8 @@
 use Rattle.std.proofs.Common.{◌≡◌, ◌-◌, chars}
 use denote.Text.{Utf8}
 use denote.Shadow.{shadow}
-use Rattle.lit_model.specs.NumericReading.{rest_of}
-use Rattle.lit_model.specs.PageReading.{parts_at}
+use Rattle.lit_model.specs.NumericParse.{rest_of}
+use Rattle.lit_model.specs.PageParse.{parts_at}
 use Rattle.lit_model.proofs.page.parse.skip_parts.Given as goal
 
 abbrev pub invariant-loop : goal.invariant-loop

@@ -1,6 +1,6 @@
 use Rattle.std.proofs.Common.{◌≡◌, drop, map, true, false}
-use Rattle.csl_names.specs.NamesContent.{with_lists, with_names_written, names_style_view}
-use Rattle.csl_names.specs.PersonLists.{list_of}
+use Rattle.csl_names.specs.NamesNode.{with_lists, with_names_written, names_style_view}
+use Rattle.csl_names.specs.NamesLists.{list_of}
 use Rattle.csl_names.proofs.names.written.NamesStyle.push_lists.Given as goal
 
 -- the content so far, with the remaining lists, is the content with all lists

@@ -1,7 +1,7 @@
 use Rattle.std.proofs.Common.{◌≡◌, take}
 use Rattle.std.specs.Fmt.{WritesInCalls}
 use Rattle.lit_model.specs.Page.{parts_view}
-use Rattle.lit_model.specs.PageText.{pages_text}
+use Rattle.lit_model.specs.PageWrite.{pages_text}
 use Rattle.lit_model.proofs.page.write.PageRangesWriteTo.write_to.Given as goal
 
 -- so far the sink took the parts before this one, and no refusal is new

@@ -7,9 +7,9 @@ use Rattle.csl_elements.specs.declared.element.ChooseBranch.{ChooseBranch, out-C
 use Rattle.csl_entry.specs.Answers.{Answers}
 use Rattle.csl_context.specs.State.{State}
 use Rattle.csl_context.specs.RenderInput.{RenderInput}
-use Rattle.csl_context.specs.ContextView.{ContextView, FailsSilently, render_input}
+use Rattle.csl_context.specs.Context.{ContextView, FailsSilently, render_input}
 use Rattle.csl_context.specs.declared.error.RenderError.{RenderError}
-use Rattle.csl_nodes.specs.Conditions.{conditions_at, of_numbers, of_dates, of_locators, of_positions, of_kinds}
+use Rattle.csl_nodes.specs.Condition.{conditions_at, of_numbers, of_dates, of_locators, of_positions, of_kinds}
 use Rattle.csl_nodes.specs.declared.branch_conditions.BranchConditionPos.{BranchConditionPos}
 use Rattle.csl_nodes.specs.declared.branch_conditions.BranchConditionPos.TheVariants as arm
 use Rattle.csl_nodes.specs.declared.branch_conditions.BranchConditionIter.{BranchConditionIter}

@@ -1,11 +1,16 @@
 -- The grammar of `Page` as a parser. Each step is a function of the remaining characters. It
 -- returns the value that it reads and the characters after it, or None if the text does not fit.
+-- The code parses shapes, which have numbers and slices of the input. The page and the item of a
+-- shape (`page_of`, `item_of`) are internal: only private contracts cite them.
 use Rattle.std.specs.Prelude.{ℕ, zero, suc, ◌==◌, if◌then◌else◌, List, [], ◌∷◌, Option, Some, None, count_by}
 use Rattle.std.specs.Char.{is_whitespace}
 use Rattle.lit_model.specs.Characters.{ampersand_char, comma_char}
 use Rattle.lit_model.specs.Numeric.{NumericView, one}
-use Rattle.lit_model.specs.NumericReading.{◌>>=◌, longest_prefix, after_longest_prefix, integer_at, affix_from, is_blank}
+use Rattle.lit_model.specs.NumericParse.{◌>>=◌, longest_prefix, after_longest_prefix, integer_at, affix_from, is_blank, text_from}
 use Rattle.lit_model.specs.Page.{PartView, ampersand, comma, single, range, is_page_affix, is_range_mark, is_separator}
+use Rattle.lit_model.specs.declared.page.parse.PageShape.{PageShape}
+use Rattle.lit_model.specs.declared.page.parse.ItemShape.{ItemShape}
+use Rattle.lit_model.specs.declared.page.parse.ItemShape.TheVariants.{Single, Pair}
 
 -- a page at the front, and the characters after it
 unfoldable pub page_at : List ℕ → Option (NumericView × List ℕ)
@@ -66,3 +71,12 @@ unfoldable pub pages_from : List ℕ → Option (List PartView)
 pages_from cs = do
   parts ← parts_at (count_by is_separator cs) (after_longest_prefix is_whitespace cs)
   if is_blank parts.1 then Some parts.0 else None
+
+-- the page of a shape
+abbrev pub page_of : PageShape → NumericView
+page_of s = record { value = one s.number; prefix = text_from s.prefix.now; suffix = text_from s.suffix.now }
+
+-- the item of a shape
+abbrev pub item_of : ItemShape → PartView
+item_of (Single page) = single (page_of page)
+item_of (Pair first last) = range (page_of first) (page_of last)

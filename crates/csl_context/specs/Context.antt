@@ -18,20 +18,24 @@
 --   it had failed already, and nothing changes (`FailsAs`). A shared lookup that returns `Memory`
 --   leaves the context unchanged. The pops of inherited values and `discard_elem` return nothing,
 --   and do not change a failed context.
-use Rattle.std.specs.Prelude.{◌≡◌, ℕ, ◌+◌, Bool, true, false, not, List, [], ◌∷◌, length, Option, Some, None, Result, IfOk, MatchResult}
+-- - In every context each open part holds a content in which no text, markup or link is empty and
+--   no element is without children (`HasContents`).
+-- - An error has a text (`error_text`).
+use Rattle.std.specs.Prelude.{◌≡◌, ℕ, ◌+◌, Bool, true, false, not, List, [], ◌∷◌, length, Option, Some, None, Result, IfOk, MatchResult, ⊤, codes}
 use Rattle.std.specs.Bool.{OnFalse}
 use Rattle.std.specs.Option.{option_or}
 use Rattle.csl_elements.specs.declared.formatting.Formatting as partial
 use Rattle.csl_style.specs.declared.style.settings.Scope.{Scope}
 use Rattle.csl_elements.specs.declared.taxonomy.Variable.{Variable}
-use Rattle.csl_elements.specs.NameOptions.{PartialOptions, apply_options}
+use Rattle.csl_elements.specs.NamesOptions.{PartialOptions, apply_options}
 use Rattle.csl_elements.specs.VariableSet.{no_variables}
 use Rattle.csl_style.specs.Scopes.{base_options}
 use Rattle.csl_style.specs.Style.{StyleParts}
 use Rattle.csl_tree.specs.declared.formatting.Formatting.{Formatting}
 use Rattle.csl_tree.specs.Formatting.{apply_formatting, default_formatting}
 use Rattle.csl_tree.specs.Tokens.{Token}
-use Rattle.csl_tree.specs.Content.{◌++>◌}
+use Rattle.csl_tree.specs.Content.{◌++>◌, IsContent}
+use Rattle.csl_tree.specs.Flat.{OpenParts}
 use Rattle.csl_entry.specs.declared.citation.cite.Sorting.{Sorting}
 use Rattle.csl_entry.specs.declared.citation.cite.SpecialForm.{SpecialForm}
 use Rattle.csl_entry.specs.Answers.{Answers}
@@ -298,3 +302,21 @@ with_first_date now = record now { state = record now.state { first_date_seen = 
 -- the context with these first names, unless it keeps some already
 abbrev pub with_first_names : {T : Type 0} → NameProperties → ContextView T → ContextView T
 with_first_names p now = record now { state = record now.state { first_names = option_or now.state.first_names (Some p) } }
+
+-- ---- the contents of open parts
+
+-- each of them is a content
+abbrev pub AreContents : List (List Token) → Type 0
+AreContents [] = ⊤
+AreContents (c ∷ cs) = IsContent c × AreContents cs
+
+-- the innermost open part and those around it hold contents
+abbrev pub HasContents : OpenParts → Type 0
+HasContents p = IsContent p.inner × AreContents p.outer
+
+-- ---- errors
+
+-- the text that `Display` writes for each error
+abbrev pub error_text : RenderError → List ℕ
+error_text Memory = codes "out of memory"
+error_text Failed = codes "the context had failed before"

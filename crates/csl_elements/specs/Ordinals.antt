@@ -12,7 +12,7 @@ use Rattle.std.specs.Option.{option_or, option_eq}
 use denote.Enum.Bare.{sameb}
 use Rattle.csl_common.specs.declared.ordinal.GrammarGender.{GrammarGender}
 use Rattle.csl_common.specs.contracts.ordinal.GrammarGender.{the_type}
-use Rattle.csl_common.specs.Ordinals.{OrdinalTexts, has_long_ordinal}
+use Rattle.csl_common.specs.Ordinal.{OrdinalTexts, has_long_ordinal}
 use Rattle.csl_elements.specs.declared.locale.OrdinalSlot.{OrdinalSlot}
 use Rattle.csl_elements.specs.declared.locale.OrdinalSlot.TheVariants.{Default, Two, Long}
 use Rattle.csl_elements.specs.declared.locale.OrdinalMatch.{OrdinalMatch}

@@ -13,8 +13,8 @@
 use Rattle.std.specs.Prelude.{ℕ, Bool, true, false, ◌&&◌, List, [], Option, Some, None, is_some, if◌then◌else◌}
 use denote.Enum.Bare.{sameb}
 use Rattle.lit_model.specs.MaybeTyped.{typed, text}
-use Rattle.lit_model.specs.NumericText.{integer_text, value_text}
-use Rattle.lit_model.specs.PageText.{pages_text}
+use Rattle.lit_model.specs.NumericWrite.{integer_text, value_text}
+use Rattle.lit_model.specs.PageWrite.{pages_text}
 use Rattle.csl_elements.specs.contracts.taxonomy.NumberVariable.{the_type as the_number}
 use Rattle.csl_elements.specs.declared.taxonomy.NumberVariable.TheVariants.{CitationNumber}
 use Rattle.csl_elements.specs.declared.taxonomy.NumberOrPageVariable.{NumberOrPageVariable}

@@ -11,7 +11,7 @@ use Rattle.csl_style.specs.Expanded.{macro_env}
 use Rattle.csl_entry.specs.Answers.{Answers}
 use Rattle.csl_context.specs.State.{State, Inherited}
 use Rattle.csl_context.specs.RenderInput.{RenderInput}
-use Rattle.csl_context.specs.ContextView.{ContextView, render_input}
+use Rattle.csl_context.specs.Context.{ContextView, render_input}
 use Rattle.csl_nodes.specs.Usage.{Info, without_group_flag}
 use Rattle.csl_nodes.specs.Text.{RenderOutput, with_output}
 use Rattle.csl_render.specs.Expanded.{expanded}

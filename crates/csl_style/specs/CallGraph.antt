@@ -8,7 +8,7 @@ use Rattle.std.specs.HashMap as hash
 use Rattle.std.specs.BTreeMap as tree
 use Rattle.csl_style.specs.declared.places.Places.{Places}
 use Rattle.csl_style.specs.declared.places.Places.TheVariants.{Few, Many}
-use Rattle.csl_style.specs.GraphReach.{Graph, row_at}
+use Rattle.csl_style.specs.Cycles.{Graph, row_at}
 use Rattle.csl_elements.specs.Node.{Node, Nodes, no_nodes, Branches, Substitutes}
 use Rattle.csl_elements.specs.View.{Definition}
 use Rattle.csl_style.specs.Expansion.{macro_index}

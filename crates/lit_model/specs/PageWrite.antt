@@ -3,7 +3,7 @@
 use Rattle.std.specs.Prelude.{ℕ, List, ◌++◌, codes}
 use Rattle.std.specs.List.{flat_map}
 use Rattle.lit_model.specs.Page.{PartView, ampersand, comma, escaped, single, range}
-use Rattle.lit_model.specs.NumericText.{numeric_text}
+use Rattle.lit_model.specs.NumericWrite.{numeric_text}
 
 -- a separator with its spaces, a page, or two pages joined by a `-`
 abbrev pub part_text : PartView → List ℕ

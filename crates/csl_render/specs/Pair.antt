@@ -12,16 +12,15 @@ use Rattle.csl_style.specs.Style.{StyleParts}
 use Rattle.csl_elements.specs.View.{view_layout}
 use Rattle.csl_style.specs.Expanded.{macro_env}
 use Rattle.csl_tree.specs.Tokens.{tokens}
-use Rattle.csl_tree.specs.Writing.{text_in_format}
+use Rattle.csl_tree.specs.Write.{text_in_format}
 use Rattle.csl_tree.specs.declared.elem.BufWriteFormat.TheVariants.{Html}
 use Rattle.csl_entry.specs.Answers.{Answers}
 use Rattle.csl_entry.specs.Cite.{CiteState}
 use Rattle.csl_entry.specs.declared.citation.cite.Sorting.{Sorting}
 use Rattle.csl_entry.specs.declared.citation.cite.SpecialForm.{SpecialForm}
 use Rattle.csl_context.specs.declared.context.Rendered.{Rendered}
-use Rattle.csl_context.specs.LeftState.{left_state_view}
-use Rattle.csl_context.specs.ContextView.{base_inherited}
-use Rattle.csl_context.specs.State.{State}
+use Rattle.csl_context.specs.State.{left_state_view, State}
+use Rattle.csl_context.specs.Context.{base_inherited}
 use Rattle.csl_context.specs.RenderInput.{RenderInput}
 use Rattle.csl_nodes.specs.Text.{RenderOutput, render_output}
 use Rattle.csl_render.specs.Tree.{layout_output}

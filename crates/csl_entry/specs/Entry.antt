@@ -6,8 +6,7 @@ use Rattle.csl_entry.specs.Answers.{Answers}
 use Rattle.csl_entry.specs.EntryDate.{date_of}
 use Rattle.csl_entry.specs.EntryKind.{typing_of, is_kind}
 use Rattle.csl_entry.specs.EntryName.{names_of}
-use Rattle.csl_entry.specs.EntryNumber.{number_of}
-use Rattle.csl_entry.specs.EntryPage.{pages_of}
+use Rattle.csl_entry.specs.EntryNumber.{number_of, pages_of}
 use Rattle.csl_entry.specs.EntryStandard.{standard_of}
 
 abbrev pub answers_of : Entry → Answers

@@ -38,7 +38,7 @@ use Rattle.csl_nodes.specs.Boxes.{in_plain, plain_between, plain_box}
 use Rattle.csl_nodes.specs.DateText.{is_written, part_text}
 use Rattle.csl_nodes.specs.DateKey.{sort_key}
 use Rattle.csl_nodes.specs.Usage.{Info, no_info}
-use Rattle.csl_nodes.specs.Numbers.{presence_info}
+use Rattle.csl_nodes.specs.Number.{presence_info}
 use Rattle.csl_nodes.specs.Text.{RenderOutput, render_output, same_variable, no_affix_texts}
 use Rattle.std.specs.Borrow.{Bor}
 use Rattle.csl_elements.specs.declared.date.Date.{Date}

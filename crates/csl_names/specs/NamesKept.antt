@@ -13,7 +13,7 @@ use Rattle.std.specs.Option.{unwrap_or, option_or}
 use Rattle.csl_elements.specs.declared.names.NameForm.{NameForm}
 use Rattle.csl_elements.specs.declared.names.NameForm.TheVariants.{Count, Short, Long}
 use Rattle.csl_elements.specs.declared.taxonomy.NameVariable.{NameVariable}
-use Rattle.csl_elements.specs.NameOptions.{CompleteOptions}
+use Rattle.csl_elements.specs.NamesOptions.{CompleteOptions}
 use Rattle.csl_entry.specs.Cite.{CiteState, Disambiguation, no_disambiguation, by_names, by_choose, by_year_suffix}
 use Rattle.csl_entry.specs.NameProperties.{NameProperties}
 use Rattle.csl_context.specs.State.{State}

@@ -18,9 +18,9 @@ use Rattle.csl_tree.specs.Content.{elem_content}
 use Rattle.csl_entry.specs.declared.forms.name_form.DisambiguatedNameForm.{DisambiguatedNameForm}
 use Rattle.csl_entry.specs.NameProperties.{NameForms}
 use Rattle.csl_context.specs.State.{Inherited}
-use Rattle.csl_context.specs.ContextView.{ContextView}
+use Rattle.csl_context.specs.Context.{ContextView}
 use Rattle.csl_names.specs.Piece.{Piece, word, gap, whole, with_pieces}
-use Rattle.csl_names.specs.OneName.{NameStyleView, name_content}
+use Rattle.csl_names.specs.Name.{NameStyleView, name_content}
 
 -- The variable; the settings of each name; the text between two names; the word before the last
 -- one, if there is one; when a delimiter precedes that word, and when it precedes `et al.`; whether

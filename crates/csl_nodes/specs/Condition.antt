@@ -8,7 +8,7 @@ use Rattle.std.specs.List.{list_all, list_any}
 use denote.Enum.Bare.{sameb}
 use Rattle.lit_model.specs.Chunks.{chunks_text, is_white_space}
 use Rattle.lit_model.specs.MaybeTyped.{MaybeView, typed, text}
-use Rattle.lit_model.specs.NumericReading.{numeric_from}
+use Rattle.lit_model.specs.NumericParse.{numeric_from}
 use Rattle.lit_model.specs.Text.{Chunk}
 use Rattle.csl_common.specs.declared.form.LongShortForm.TheVariants.{Long}
 use Rattle.csl_elements.specs.declared.element.ChooseMatch.{ChooseMatch}

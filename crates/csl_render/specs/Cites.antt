@@ -17,16 +17,16 @@ use Rattle.csl_style.specs.Expanded.{macro_env}
 use Rattle.csl_style.specs.Named.{named_in_nodes}
 use Rattle.csl_style.specs.Style.{StyleParts}
 use Rattle.csl_tree.specs.Tokens.{Token}
-use Rattle.csl_tree.specs.Writing.{plain_text}
+use Rattle.csl_tree.specs.Write.{plain_text}
 use Rattle.csl_entry.specs.Alike.{SameAnswer, SameNamedAnswers}
 use Rattle.csl_entry.specs.Answers.{Answers}
 use Rattle.csl_entry.specs.Cite.{CiteState, first_cite, no_disambiguation}
 use Rattle.csl_entry.specs.declared.citation.cite.Sorting.{Sorting}
 use Rattle.csl_entry.specs.declared.citation.cite.SpecialForm.{SpecialForm}
-use Rattle.csl_context.specs.ContextView.{initial_state}
+use Rattle.csl_context.specs.Context.{initial_state}
 use Rattle.csl_nodes.specs.Text.{RenderOutput}
 use Rattle.csl_render.specs.Names.{author}
-use Rattle.csl_render.specs.PairOutput.{cite_input, layout_output_from}
+use Rattle.csl_render.specs.Pair.{cite_input, layout_output_from}
 
 -- the content and the state of a cite by a layout, in a new context
 abbrev pub new_cite : StyleParts → Scope → CiteState → Option Sorting → Option SpecialForm → Answers → Layout → RenderOutput

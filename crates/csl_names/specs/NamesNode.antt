@@ -7,7 +7,7 @@ use Rattle.csl_elements.specs.declared.names.NameForm.{NameForm}
 use Rattle.csl_elements.specs.declared.names.NameForm.TheVariants.{Count, Short, Long}
 use Rattle.csl_elements.specs.declared.taxonomy.NameVariable.{NameVariable}
 use Rattle.csl_elements.specs.declared.term.Term.TheVariants as terms
-use Rattle.csl_elements.specs.NameOptions.{PartialOptions, CompleteOptions, apply_options, with_defaults, names_delimiter_of, complete_options}
+use Rattle.csl_elements.specs.NamesOptions.{PartialOptions, CompleteOptions, apply_options, with_defaults, names_delimiter_of, complete_options}
 use Rattle.csl_elements.specs.Names.{NameNode, EtAlNode, LabelNode, NamesLabel, NamesNode, first_name, view_name, view_et_al}
 use Rattle.csl_elements.specs.NamesParts.{default_name, default_et_al, placed_label}
 use Rattle.csl_style.specs.Style.{StyleParts}
@@ -17,14 +17,14 @@ use Rattle.csl_entry.specs.Cite.{CiteState}
 use Rattle.csl_entry.specs.NameProperties.{NameForms}
 use Rattle.csl_context.specs.State.{State, Inherited, with_node_formatting}
 use Rattle.csl_context.specs.Texts.{text_in, between_in, affixed_in}
-use Rattle.csl_context.specs.ContextView.{ContextView}
+use Rattle.csl_context.specs.Context.{ContextView}
 use Rattle.csl_context.specs.RenderInput.{term_in}
 use Rattle.csl_names.specs.Piece.{append_pieces}
-use Rattle.csl_names.specs.NameList.{name_list}
+use Rattle.csl_names.specs.List.{name_list}
 use Rattle.csl_names.specs.ListStyles.{list_style}
 use Rattle.csl_names.specs.NamesLists.{PersonLists}
 use Rattle.csl_names.specs.NamesForms.{count_of, saturated_count}
-use Rattle.csl_names.specs.CiteForms.{forms_in, with_first_forms, with_first_forms_by}
+use Rattle.csl_names.specs.NamesKept.{forms_in, with_first_forms, with_first_forms_by}
 use Rattle.csl_names.specs.declared.names.written.NamesStyle.{NamesStyle}
 
 -- ---- settings of the lists
