@@ -39,7 +39,7 @@ fn has_affixes(affixes: &Affixes) -> bool
 }
 
 /// Whether the number of quotes around is odd, inside these quotes if there are any.
-fn turned_if(quotes: bool, in_quotes: bool) -> bool
+fn parity_inside(quotes: bool, in_quotes: bool) -> bool
     ensures { result ≡ toggled_if quotes in_quotes }
 {
     if quotes { !in_quotes } else { in_quotes }
@@ -94,7 +94,7 @@ impl<'s, T> Context<'s, T> {
         ensures { self.new ≡ with_body_inherited (body_attributes around.entry) self.old }
     {
         self.writing.formatting = self.writing.formatting.apply(around.formatting);
-        self.writing.in_quotes = turned_if(around.quotes, self.writing.in_quotes);
+        self.writing.in_quotes = parity_inside(around.quotes, self.writing.in_quotes);
         self.writing.strip_periods = around.strip_periods || self.writing.strip_periods;
     }
 
@@ -134,7 +134,7 @@ impl<'s, T> Context<'s, T> {
     }
 
     /// Closes the part between the affixes, if there are any.
-    fn close_affixes_if(&mut self, around: BodyDressing<'_>, moved: bool) -> Result<(), RenderError>
+    fn close_affixes(&mut self, around: BodyDressing<'_>, moved: bool) -> Result<(), RenderError>
         requires live { self.old.failed ≡ false }
         requires parts { OnTrue (has_affixes (affix_texts around.affixes.now))
             (0 < length self.old.outer) }
@@ -164,7 +164,7 @@ impl<'s, T> Context<'s, T> {
         self.ensure_live()?;
         self.leave_body(before);
         let moved = self.close_quotes_if(around)?;
-        self.close_affixes_if(around, moved)?;
+        self.close_affixes(around, moved)?;
         self.leave_formatting(before);
         Ok(())
     }

@@ -10,7 +10,7 @@ use Rattle.lit_model.specs.Entry.{parents_of}
 use Rattle.lit_model.specs.Select.{is_among, parent_among}
 use Rattle.lit_model.specs.Source.{press_of, address_of}
 use Rattle.lit_model.specs.Work.{Own, own_of}
-use Rattle.csl_entry.specs.EntryKind.{typing_of, typing_from, stands_in, stands_alone}
+use Rattle.csl_entry.specs.EntryKind.{typing_of, typing_from, is_part_of, stands_alone}
 
 module _ {A B : Type 0} (q : B → Bool) (f : A → B) where
   found_step : (b : Bool) (x : A) (xs : List A) → is_some (find (λ x. q (f x)) xs) ≡ list_any q (map f xs) → is_some (if b then Some x else find (λ x. q (f x)) xs) ≡ (b || list_any q (map f xs))
@@ -25,7 +25,7 @@ module _ {A B : Type 0} (q : B → Bool) (f : A → B) where
 abbrev type_of : Entry → EntryType
 type_of e = (out-Entry e).entry_type
 
-pub stands_in_found : (types : List EntryType) (e : Entry) → is_some (parent_among types e) ≡ stands_in types (typing_of e)
+pub stands_in_found : (types : List EntryType) (e : Entry) → is_some (parent_among types e) ≡ is_part_of types (typing_of e)
 stands_in_found types e = found_any (λ t. is_among t types) type_of (parents_of e)
 
 pub alone_without_parents : (e : Entry) → stands_alone (typing_of e) ≡ (length (parents_of e) == 0)

@@ -48,8 +48,8 @@ abbrev pub is_a : EntryType → Typing → Bool
 is_a t y = same_type y.own t
 
 -- whether a direct parent is of one of these types
-abbrev pub stands_in : List EntryType → Typing → Bool
-stands_in types y = list_any (λ t. is_among t types) y.parents
+abbrev pub is_part_of : List EntryType → Typing → Bool
+is_part_of types y = list_any (λ t. is_among t types) y.parents
 
 -- whether the entry has no parents
 abbrev pub stands_alone : Typing → Bool
@@ -60,36 +60,36 @@ abbrev pub none_of : List (Typing → Bool) → Typing → Bool
 none_of tests y = not (list_any (λ test. test y) tests)
 
 abbrev pub is_journal_article : Typing → Bool
-is_journal_article y = is_a Article y && stands_in (Periodical ∷ []) y
+is_journal_article y = is_a Article y && is_part_of (Periodical ∷ []) y
 
 abbrev pub is_newspaper_article : Typing → Bool
-is_newspaper_article y = is_a Article y && stands_in (Newspaper ∷ []) y
+is_newspaper_article y = is_a Article y && is_part_of (Newspaper ∷ []) y
 
 abbrev pub is_conference_paper : Typing → Bool
-is_conference_paper y = is_a Article y && stands_in (Proceedings ∷ []) y
+is_conference_paper y = is_a Article y && is_part_of (Proceedings ∷ []) y
 
 -- a report, or anything in one
 abbrev pub is_report : Typing → Bool
-is_report y = is_a Report y || stands_in (Report ∷ []) y
+is_report y = is_a Report y || is_part_of (Report ∷ []) y
 
 -- a thesis, or anything in one
 abbrev pub is_thesis : Typing → Bool
-is_thesis y = is_a Thesis y || stands_in (Thesis ∷ []) y
+is_thesis y = is_a Thesis y || is_part_of (Thesis ∷ []) y
 
 -- a book in a periodical; the periodical itself is not of this kind
 abbrev pub is_periodical : Typing → Bool
-is_periodical y = is_a Book y && stands_in (Periodical ∷ []) y
+is_periodical y = is_a Book y && is_part_of (Periodical ∷ []) y
 
 -- anything in a work of reference
 abbrev pub is_encyclopedia_entry : Typing → Bool
-is_encyclopedia_entry y = stands_in (Reference ∷ []) y
+is_encyclopedia_entry y = is_part_of (Reference ∷ []) y
 
 abbrev pub is_recording : Typing → Bool
 is_recording y = is_a Audio y || is_a Video y
 
 -- an audio in a book, a periodical, a work of reference, a miscellany, a blog or a site
 abbrev pub is_musical_score : Typing → Bool
-is_musical_score y = is_a Audio y && stands_in (Book ∷ Periodical ∷ Reference ∷ Misc ∷ Blog ∷ Web ∷ []) y
+is_musical_score y = is_a Audio y && is_part_of (Book ∷ Periodical ∷ Reference ∷ Misc ∷ Blog ∷ Web ∷ []) y
 
 abbrev pub is_motion_picture : Typing → Bool
 is_motion_picture y = is_a Video y && stands_alone y
@@ -99,21 +99,21 @@ is_song y = is_a Audio y && stands_alone y
 
 -- anything in a blog
 abbrev pub is_blog_post : Typing → Bool
-is_blog_post y = stands_in (Blog ∷ []) y
+is_blog_post y = is_part_of (Blog ∷ []) y
 
 -- a post, or anything in a thread
 abbrev pub is_post : Typing → Bool
-is_post y = is_a Post y || stands_in (Thread ∷ []) y
+is_post y = is_a Post y || is_part_of (Thread ∷ []) y
 
 -- a site, a blog or a thread, anything in a site or a blog, and a miscellany (type Misc) with an
 -- address
 abbrev pub is_online : Typing → Bool
 is_online y =
     (is_a Misc y && y.has_address)
-    || (stands_in (Web ∷ Blog ∷ []) y || (is_a Web y || (is_a Blog y || is_a Thread y)))
+    || (is_part_of (Web ∷ Blog ∷ []) y || (is_a Web y || (is_a Blog y || is_a Thread y)))
 
 abbrev pub is_figure : Typing → Bool
-is_figure y = is_a Artwork y && stands_in (Article ∷ []) y
+is_figure y = is_a Artwork y && is_part_of (Article ∷ []) y
 
 -- Whether an entry is of a kind.
 -- - An article in a periodical, a newspaper or proceedings is a journal article, a newspaper
@@ -145,8 +145,8 @@ is_kind kind.Bill y = is_a Legislation y && not y.has_publisher
 is_kind kind.Book y = (is_a Book y || is_a Proceedings y) && not (is_periodical y)
 is_kind kind.Broadcast y = is_recording y && none_of (is_musical_score ∷ is_motion_picture ∷ is_song ∷ []) y
 is_kind kind.Chapter y =
-    (is_a Anthos y && stands_in (Anthology ∷ []) y)
-    || (is_a Chapter y && stands_in (Book ∷ Anthology ∷ Proceedings ∷ []) y)
+    (is_a Anthos y && is_part_of (Anthology ∷ []) y)
+    || (is_a Chapter y && is_part_of (Book ∷ Anthology ∷ Proceedings ∷ []) y)
 is_kind kind.Classic y = false
 is_kind kind.Collection y = is_a Anthology y
 is_kind kind.Dataset y = false

@@ -144,14 +144,14 @@ day_text style (Some Ordinal) month n = ordinal_day style month n
 day_text style (Some Long) month n = decimal (n + 1)
 day_text style (Some Short) month n = decimal (n + 1)
 
-abbrev pub day_if : StyleParts → Option DateAnyForm → Option ℕ → Option ℕ → List ℕ
-day_if style form month None = []
-day_if style form month (Some n) = day_text style form month n
+abbrev pub optional_day : StyleParts → Option DateAnyForm → Option ℕ → Option ℕ → List ℕ
+optional_day style form month None = []
+optional_day style form month (Some n) = day_text style form month n
 
 -- ---- a part
 
 -- the text of a part; nothing if the date lacks it, and the season for a missing month
 unfoldable pub part_text : StyleParts → DatePartName → Option DateAnyForm → DateView → List ℕ
-part_text style Day form d = day_if style form d.month d.day
+part_text style Day form d = optional_day style form d.month d.day
 part_text style Month form d = month_or_season style form d.month d.season
 part_text style Year form d = year_text style form d.year

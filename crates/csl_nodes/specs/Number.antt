@@ -70,9 +70,9 @@ sort_text (page (typed parts)) = Some (pages_text parts)
 sort_text (page (text bs)) = None
 
 -- the sort text, if the cite is rendered for sorting
-abbrev pub sort_text_if : Option Sorting → NumberOrPageView → Option (List ℕ)
-sort_text_if None found = None
-sort_text_if (Some sorting) found = sort_text found
+abbrev pub optional_sort_text : Option Sorting → NumberOrPageView → Option (List ℕ)
+optional_sort_text None found = None
+optional_sort_text (Some sorting) found = sort_text found
 
 abbrev pub number_meta : NumberOrPageVariable → Meta
 number_meta (number_or_page.Number v) = if sameb the_number v CitationNumber then of_citation_number else of_number
@@ -89,7 +89,7 @@ number_content w n found None inh = plain_box n.dressing (number_meta n.variable
 
 abbrev pub optional_number_content : RenderInput → NumberNode → Option NumberOrPageView → Inherited → List Token
 optional_number_content w n None inh = []
-optional_number_content w n (Some found) inh = number_content w n found (sort_text_if w.instance.sorting found) inh
+optional_number_content w n (Some found) inh = number_content w n found (optional_sort_text w.instance.sorting found) inh
 
 -- the variable is looked up for printing if the number shows it
 abbrev pub number_output : RenderInput → NumberNode → Inherited → State → RenderOutput

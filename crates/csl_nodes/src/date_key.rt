@@ -75,7 +75,7 @@ fn is_keyed(node: &Date, sorting: Sorting, part: DatePartName) -> bool
 }
 
 /// The key of a year with its suffix, or an empty text if the sort key has no year.
-fn year_key_if(alloc: Global, has: bool, suffix: &str, year: i32) -> Result<String, Memory>
+fn optional_year_key(alloc: Global, has: bool, suffix: &str, year: i32) -> Result<String, Memory>
     ensures { IfOk result (λ s. string_bytes s ≡ key_if has (year_key year ++ suffix.now)) }
 {
     if !has {
@@ -87,7 +87,7 @@ fn year_key_if(alloc: Global, has: bool, suffix: &str, year: i32) -> Result<Stri
 }
 
 /// The key of a month or a day, or an empty text if the sort key has no such part.
-fn place_key_if(alloc: Global, has: bool, place: Option<u8>) -> Result<String, Memory>
+fn optional_place_key(alloc: Global, has: bool, place: Option<u8>) -> Result<String, Memory>
     ensures { IfOk result (λ s. string_bytes s ≡ key_if has (place_key place)) }
 {
     if has {
@@ -112,9 +112,9 @@ pub(crate) fn sort_key(
     let has_year = is_keyed(node, sorting, DatePartName::Year);
     let has_month = is_keyed(node, sorting, DatePartName::Month);
     let has_day = is_keyed(node, sorting, DatePartName::Day);
-    let year = year_key_if(alloc, has_year, suffix, date.year())?;
-    let month = place_key_if(alloc, has_month, date.month())?;
-    let day = place_key_if(alloc, has_day, date.day())?;
+    let year = optional_year_key(alloc, has_year, suffix, date.year())?;
+    let month = optional_place_key(alloc, has_month, date.month())?;
+    let day = optional_place_key(alloc, has_day, date.day())?;
     let key = format!(in alloc; "{year}{month}{day}")?;
     Ok(key)
 }

@@ -3,7 +3,7 @@
 
 ghost use Rattle.std.specs.Prelude.{◌≡◌, ◌+◌, ◌++◌, ◌≤◌, IfOk, string_bytes, option_map, decimal};
 ghost use Rattle.lit_model.specs.Date.{date_view};
-ghost use Rattle.csl_nodes.specs.DateText.{names_part, is_written, word, two_digits, is_short, ad_text, bc_text, common_year, year_text, month_named, month_text, season_text, month_or_season, month_gender, ordinal_suffix, ordinal_day, day_text, day_if, part_text};
+ghost use Rattle.csl_nodes.specs.DateText.{names_part, is_written, word, two_digits, is_short, ad_text, bc_text, common_year, year_text, month_named, month_text, season_text, month_or_season, month_gender, ordinal_suffix, ordinal_day, day_text, optional_day, part_text};
 
 use csl_context::Context;
 use csl_style::{DateAnyForm, DatePartName, DateParts, OtherTerm, Term, TermForm};
@@ -236,8 +236,12 @@ fn day_text<T>(
 }
 
 /// The text of a date's day, or an empty text if it has none.
-fn day_if<T>(ctx: &Context<'_, T>, form: Option<DateAnyForm>, date: &Date) -> Result<String, Memory>
-    ensures { IfOk result (λ s. string_bytes s ≡ day_if ctx.now.style form
+fn optional_day<T>(
+    ctx: &Context<'_, T>,
+    form: Option<DateAnyForm>,
+    date: &Date,
+) -> Result<String, Memory>
+    ensures { IfOk result (λ s. string_bytes s ≡ optional_day ctx.now.style form
         (date_view date.now).month (date_view date.now).day) }
 {
     match date.day() {
@@ -259,7 +263,7 @@ pub(crate) fn part_text<T>(
         ≡ part_text ctx.now.style name form (date_view date.now)) }
 {
     match name {
-        DatePartName::Day => day_if(ctx, form, date),
+        DatePartName::Day => optional_day(ctx, form, date),
         DatePartName::Month => month_or_season(ctx, form, date.month(), date.season()),
         DatePartName::Year => year_text(ctx, form, date.year()),
     }

@@ -7,7 +7,7 @@ ghost use Rattle.csl_elements.specs.View.{view_number};
 ghost use Rattle.csl_tree.specs.Tokens.{meta_of};
 ghost use Rattle.csl_entry.specs.NumberResult.{number_or_page_view};
 ghost use Rattle.csl_context.specs.Context.{Runs, GivesBy, render_input, with_content};
-ghost use Rattle.csl_nodes.specs.Number.{is_shown, presence_info, number_info, number_shows, number_output, sort_text_if, number_meta, number_content, optional_number_content};
+ghost use Rattle.csl_nodes.specs.Number.{is_shown, presence_info, number_info, number_shows, number_output, optional_sort_text, number_meta, number_content, optional_number_content};
 ghost use Rattle.csl_nodes.specs.Text.{Appends};
 ghost use Rattle.csl_nodes.specs.Usage.{info_view};
 
@@ -109,12 +109,12 @@ fn key_of(alloc: Global, number: &Numeric) -> Result<String, Memory>
 
 /// The sort text of an answer, if the cite is rendered for sorting and the answer is a number or
 /// pages.
-fn sort_text_if<T>(
+fn optional_sort_text<T>(
     ctx: &Context<'_, T>,
     found: &NumberOrPageVariableResult<'_>,
 ) -> Result<Option<String>, Memory>
     ensures { IfOk result (λ key. option_map string_bytes key
-        ≡ sort_text_if ctx.now.sorting (number_or_page_view found.now)) }
+        ≡ optional_sort_text ctx.now.sorting (number_or_page_view found.now)) }
 {
     if ctx.sorting().is_none() {
         return Ok(None);
@@ -188,7 +188,7 @@ fn render_found<'s, T: EntryLike>(
         (view_number
         number.now) (Some (number_or_page_view found.now))) now) result ctx.old ctx.new }
 {
-    match ctx.attempt(sort_text_if(ctx, found))? {
+    match ctx.attempt(optional_sort_text(ctx, found))? {
         Some(key) => ctx.push_str(key.as_str()),
         None => render_box(ctx, number, found),
     }

@@ -39,7 +39,7 @@ use Rattle.csl_nodes.specs.Condition.{is_some_and, is_number, is_typed, is_typed
 use Rattle.csl_nodes.specs.Date.{date_shows_own, variable_info, localized_over, printed_date, date_or_key, resolved_date, variable_output}
 use Rattle.csl_nodes.specs.Usage.{info_of, no_usage_flags, no_info, should_render_group, info_union, as_child_info, without_group_flag, group_info, macro_info}
 use Rattle.csl_nodes.specs.Label.{is_plural, label_term, term_if, text_beside, label_text, label_info, label_box, label_output, label_by_special_form}
-use Rattle.csl_nodes.specs.Number.{shows_own, presence_info, number_info, sort_text_if, number_content, optional_number_content, number_output}
+use Rattle.csl_nodes.specs.Number.{shows_own, presence_info, number_info, optional_sort_text, number_content, optional_number_content, number_output}
 use Rattle.csl_render.specs.Pair.{with_answers}
 use Rattle.csl_nodes.specs.Text.{RenderOutput, render_output, then_output, shows_variable, standard_text, number_result, ResolvedText, resolved_variable, resolved_text, calls, resolved_info, is_of, resolved_content, variable_state, target_state, text_output}
 use Rattle.csl_render.specs.Names.{author, is_refused, names_show, names_info, in_substitute, suppressing_from, lists_or_substitute}
@@ -107,7 +107,7 @@ module _ (a b : Answers) where
 
     found_content_alike : (n : NumberNode) (o : Option NumberOrPageView) (inh : Inherited) → optional_number_content v n o inh ≡ optional_number_content u n o inh
     found_content_alike n None inh = refl
-    found_content_alike n (Some found) inh = content_alike n found (sort_text_if w.instance.sorting found) inh
+    found_content_alike n (Some found) inh = content_alike n found (optional_sort_text w.instance.sorting found) inh
 
     number_tree_alike : (n : NumberNode) (inh : Inherited) (s : State) → SameNamedAnswers (the_number_or_page n.variable) a b → number_output v n inh s ≡ number_output u n inh s
     number_tree_alike n inh s h =

@@ -27,7 +27,7 @@ use Rattle.csl_names.specs.NamesForms.{writes_no_name}
 use Rattle.csl_names.specs.NamesLists.{PersonLists, all_empty, peeked_lists}
 use Rattle.csl_nodes.specs.Condition.{branch_matches, chosen_nodes, chosen_children}
 use Rattle.csl_nodes.specs.Usage.{Info, group_info, info_view, no_info}
-use Rattle.csl_render.specs.declared.plan.AskedNode.{AskedNode}
+use Rattle.csl_render.specs.declared.plan.OwnedPlan.{OwnedPlan}
 use Rattle.csl_render.specs.declared.plan.NodeInfo.{NodeInfo}
 use Rattle.csl_render.specs.declared.plan.PlanItem.{PlanItem}
 use Rattle.csl_render.specs.DryRun.{Adds, Run}
@@ -162,7 +162,7 @@ pub names_asked : (w : RenderInput) (d : DryView) (s : State) (env : List ℕ �
 names_asked w d s env x is h = subst (λ n. AreInside w d s (expand env n) is) (sym (names_out x)) h
 
 -- what a dry run from an empty plan gives
-pub asked : {T : Type 0} (answers : T → Answers) (now : ContextView T) (f : ExpandedNode) (i : NodeInfo) (end : Run T) (r : AskedNode) → Adds (IsInfo (render_input answers now) (dry_now now) f i) (record { now = now; items = [] }) end
+pub asked : {T : Type 0} (answers : T → Answers) (now : ContextView T) (f : ExpandedNode) (i : NodeInfo) (end : Run T) (r : OwnedPlan) → Adds (IsInfo (render_input answers now) (dry_now now) f i) (record { now = now; items = [] }) end
     → dry_view r.at ≡ dry_now now → r.answer ≡ i.answer → r.shows_author ≡ i.shows_author → r.inside.items ≡ end.items → IsDryRun answers now f r
 asked answers now f i end r h at answer told inside =
     let w = render_input answers now in

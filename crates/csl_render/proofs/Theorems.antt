@@ -19,7 +19,7 @@ use Rattle.csl_render.specs.Cites.{special_cite, whole_cite, named_by, AgreeButF
 use Rattle.csl_render.specs.Laws.{AlikeEntriesRenderAlike, RenderingKeepsState, SnapshotsRenderAlike, AnswersDecide, EqualSnapshotsCiteAlike, SuppressedAuthorsAreSilent, SortKeysOrderAsDates}
 use Rattle.csl_render.specs.Names.{author}
 use Rattle.csl_render.specs.Pair.{cite_input}
-use Rattle.csl_render.specs.Tested.{tested_by}
+use Rattle.csl_render.specs.Tested.{variables_of_tests}
 use Rattle.csl_render.proofs.AuthorSilent.{author_silent}
 use Rattle.csl_render.proofs.AlikeNodes.{layout_alike}
 use Rattle.csl_render.proofs.DatesInOrder.{keys_order}
@@ -53,7 +53,7 @@ pub suppressed_authors_are_silent : SuppressedAuthorsAreSilent
 suppressed_authors_are_silent w l a b special untested alike inherited s = author_silent l a b alike w special untested inherited s
 
 -- The same of a cite in that form.
-pub untold_author : (style : StyleParts) (cite : CiteState) (form : SpecialForm) (a b : Answers) → form ≡ SuppressAuthor → tested_by style style.citation (a_variable author) ≡ false
+pub untold_author : (style : StyleParts) (cite : CiteState) (form : SpecialForm) (a b : Answers) → form ≡ SuppressAuthor → variables_of_tests style style.citation (a_variable author) ≡ false
     → AgreeButForAuthors (named_by style style.citation) a b → special_cite style cite form a ≡ special_cite style cite form b
 untold_author style cite form a b is untested alike =
     author_silent (expand_layout (macro_env style) (view_layout style.citation)) a b alike (cite_input style Citation cite None (Some form) a) (ap (λ (f : SpecialForm). Some f) is) untested (base_inherited style Citation) initial_state

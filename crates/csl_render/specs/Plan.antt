@@ -27,7 +27,7 @@ use Rattle.csl_context.specs.RenderInput.{RenderInput}
 use Rattle.csl_context.specs.Context.{ContextView, render_input}
 use Rattle.csl_nodes.specs.Condition.{all_if, branch_matches}
 use Rattle.csl_nodes.specs.Usage.{Info, info_view}
-use Rattle.csl_render.specs.declared.plan.AskedNode.{AskedNode}
+use Rattle.csl_render.specs.declared.plan.OwnedPlan.{OwnedPlan}
 use Rattle.csl_render.specs.declared.plan.DryState.{DryState}
 use Rattle.csl_render.specs.declared.plan.ListPlan.{ListPlan}
 use Rattle.csl_render.specs.declared.plan.NodeInfo.{NodeInfo}
@@ -172,13 +172,13 @@ dry_now now = dry now.special now.state
 
 module _ {T : Type 0} (answers : T → Answers) (now : ContextView T) where
   -- what a dry run of a node gives a plan that holds
-  abbrev pub IsDryRun : ExpandedNode → AskedNode → Type 0
+  abbrev pub IsDryRun : ExpandedNode → OwnedPlan → Type 0
   IsDryRun f r =
       (info_view r.answer ≡ info (render_input answers now) now.state f)
       × TellsAuthor (render_input answers now) r.shows_author (shows (render_input answers now) now.state author f)
       × AreInside (render_input answers now) (dry_view r.at) now.state f r.inside.items
 
-  abbrev pub IsDryRunOf : Node → AskedNode → Type 0
+  abbrev pub IsDryRunOf : Node → OwnedPlan → Type 0
   IsDryRunOf n = IsDryRun (expanded now.style n)
 
   abbrev pub TellsAuthorOf : Node → Bool → Type 0

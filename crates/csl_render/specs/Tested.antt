@@ -36,5 +36,5 @@ abbrev mutual
   tested_in_substitutes (expanded_substitute fs is) = named_union (tested_in_nodes fs) (tested_in_substitutes is)
 
 -- what the tests of a style's layout name, those in the macros that it reaches included
-abbrev pub tested_by : StyleParts → Layout → NamedSet
-tested_by style layout = tested_in_nodes (expand_layout (macro_env style) (view_layout layout)).elements
+abbrev pub variables_of_tests : StyleParts → Layout → NamedSet
+variables_of_tests style layout = tested_in_nodes (expand_layout (macro_env style) (view_layout layout)).elements

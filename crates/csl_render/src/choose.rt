@@ -70,7 +70,7 @@ pub fn choose_children<'a, 's, T: EntryLike>(
 
 /// Returns the nodes that a choice takes. The choice shows the variables they show, and renders
 /// them delimited. The plan of the nodes inside the choice is that of these nodes.
-fn taken_nodes<'s, T: EntryLike>(
+fn chosen_children<'s, T: EntryLike>(
     ctx: &Context<'s, T>,
     choose: &'s Choose,
 ) -> Result<Option<&'s [LayoutRenderingElement]>, Memory>
@@ -123,7 +123,7 @@ fn with_tested_dates(set: VariableSet, tests: &Option<Vec<DateVariable>>) -> Var
 }
 
 /// The variables that the tests of a branch look up.
-fn tested_by(branch: &ChooseBranch) -> VariableSet
+fn variables_of_tests(branch: &ChooseBranch) -> VariableSet
     ensures { HasTested result (view_branch branch.now).tests }
 {
     let set = with_tested(VariableSet::new(), &branch.is_numeric);
@@ -135,9 +135,9 @@ fn tested_by(branch: &ChooseBranch) -> VariableSet
 fn tested_variables(choose: &Choose) -> VariableSet
     ensures { HasAllTested result choose.now }
 {
-    let mut set = tested_by(&choose.if_);
+    let mut set = variables_of_tests(&choose.if_);
     for branch in &choose.else_if {
-        set = set.union(tested_by(branch));
+        set = set.union(variables_of_tests(branch));
     }
     set
 }
@@ -151,7 +151,7 @@ impl Node for Choose {
         run: &mut DryRun<'c, 's, T>,
     ) -> Result<NodeInfo, Memory> {
         let tested = tested_variables(self);
-        match taken_nodes(run.context(), self)? {
+        match chosen_children(run.context(), self)? {
             Some(nodes) => {
                 let info = nodes_info(nodes, run)?;
                 let answer = without_group_flag(info.answer);
@@ -167,19 +167,19 @@ impl Node for Choose {
         &'s self,
         query: &mut Query<'c, 's, T>,
     ) -> Result<bool, Memory> {
-        match taken_nodes(query.context(), self)? {
+        match chosen_children(query.context(), self)? {
             Some(nodes) => any_shows(nodes, query),
             None => Ok(false),
         }
     }
 
     #[cycle(render)]
-    fn render_by<'p, 's, T: EntryLike>(
+    fn render_with_plan<'p, 's, T: EntryLike>(
         &'s self,
         ctx: &mut Context<'s, T>,
         plan: Option<&NodePlan<'p>>,
     ) -> Result<(), RenderError> {
-        let taken = taken_nodes(ctx, self);
+        let taken = chosen_children(ctx, self);
         match ctx.attempt(taken)? {
             Some(nodes) => render_with_delimiter(ctx, nodes, plan),
             None => push_nothing(ctx),

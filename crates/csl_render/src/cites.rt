@@ -17,7 +17,7 @@ ghost use Rattle.csl_render.specs.Cites.{new_cite, sort_key_text, special_cite, 
 ghost use Rattle.csl_render.specs.Names.{author};
 ghost use Rattle.csl_render.specs.Pair.{cite_input, layout_output_from, output_of, Prints, PrintsSame};
 ghost use Rattle.csl_render.specs.SortedDates.{SortsByDate};
-ghost use Rattle.csl_render.specs.Tested.{tested_by};
+ghost use Rattle.csl_render.specs.Tested.{variables_of_tests};
 
 use crate::pair::{Pair, are_alike_on, render_both, render_pair};
 use crate::render::RenderCsl;
@@ -129,7 +129,7 @@ pub fn cite_in<T: EntryLike>(
         (cite_state cite_props.now) form others)) }
     // Without its authors it tells nothing of them, unless a test of a branch names them.
     ensures silent { form ≡ special_forms.SuppressAuthor
-        → tested_by style.now style.now.citation (a_variable author) ≡ false → (others : Answers)
+        → variables_of_tests style.now style.now.citation (a_variable author) ≡ false → (others : Answers)
         → AgreeButForAuthors (named_by style.now style.now.citation) (T.answers entry.now) others
         → IfOk result (λ r. output_of r ≡ special_cite style.now (cite_state cite_props.now) form
         others) }

@@ -104,7 +104,7 @@ impl<'c, 's, T: EntryLike> DryRun<'c, 's, T> {
     }
 
     /// The result for a text that calls the macro at a place, if the dry run has kept it.
-    pub(crate) fn known_call(&self, place: Option<usize>) -> Option<NodeInfo>
+    pub(crate) fn cached_call(&self, place: Option<usize>) -> Option<NodeInfo>
         ensures { IfSome result (IsCallInfo (render_input T.answers self.now.now)
             (dry_now self.now.now) (nodes_at self.now.now.style place)) }
     {
@@ -113,7 +113,7 @@ impl<'c, 's, T: EntryLike> DryRun<'c, 's, T> {
     }
 
     /// Keeps the result for a text that calls the macro at a place, if there is one.
-    pub(crate) fn keep_call(&mut self, place: Option<usize>, info: NodeInfo) -> Result<(), Memory>
+    pub(crate) fn cache_call(&mut self, place: Option<usize>, info: NodeInfo) -> Result<(), Memory>
         requires { IsCallInfo (render_input T.answers self.old.now) (dry_now self.old.now)
             (nodes_at self.old.now.style place) info }
         ensures { self.new ≡ self.old }

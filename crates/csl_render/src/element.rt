@@ -15,7 +15,7 @@ ghost use Rattle.csl_nodes.specs.Text.{Appends};
 
 use crate::dry_run::DryRun;
 use crate::node::Node;
-use crate::plan::{AskedNode, DryState, NodeInfo, NodePlan, inside_plan, next_plan};
+use crate::plan::{DryState, NodeInfo, NodePlan, OwnedPlan, inside_plan, next_plan};
 use crate::query::Query;
 use crate::render::RenderCsl;
 use csl_context::{Context, RenderError};
@@ -127,19 +127,19 @@ impl Node for LayoutRenderingElement {
     }
 
     #[cycle(render)]
-    fn render_by<'p, 's, T: EntryLike>(
+    fn render_with_plan<'p, 's, T: EntryLike>(
         &'s self,
         ctx: &mut Context<'s, T>,
         plan: Option<&NodePlan<'p>>,
     ) -> Result<(), RenderError> {
         match self {
-            LayoutRenderingElement::Text(text) => text.render_by(ctx, plan),
-            LayoutRenderingElement::Group(group) => group.render_by(ctx, plan),
-            LayoutRenderingElement::Number(number) => number.render_by(ctx, plan),
-            LayoutRenderingElement::Label(label) => label.render_by(ctx, plan),
-            LayoutRenderingElement::Date(date) => date.render_by(ctx, plan),
-            LayoutRenderingElement::Names(names) => names.render_by(ctx, plan),
-            LayoutRenderingElement::Choose(choose) => choose.render_by(ctx, plan),
+            LayoutRenderingElement::Text(text) => text.render_with_plan(ctx, plan),
+            LayoutRenderingElement::Group(group) => group.render_with_plan(ctx, plan),
+            LayoutRenderingElement::Number(number) => number.render_with_plan(ctx, plan),
+            LayoutRenderingElement::Label(label) => label.render_with_plan(ctx, plan),
+            LayoutRenderingElement::Date(date) => date.render_with_plan(ctx, plan),
+            LayoutRenderingElement::Names(names) => names.render_with_plan(ctx, plan),
+            LayoutRenderingElement::Choose(choose) => choose.render_with_plan(ctx, plan),
         }
     }
 }
@@ -165,16 +165,16 @@ pub(crate) fn any_shows<'c, 's, T: EntryLike>(
 
 /// The dry run of a node, and the state that it read.
 #[inline(never)]
-fn ask_node<'s, T: EntryLike>(
+fn plan_node<'s, T: EntryLike>(
     ctx: &Context<'s, T>,
     node: &'s LayoutRenderingElement,
-) -> Result<AskedNode, Memory>
+) -> Result<OwnedPlan, Memory>
     ensures { IfOk result (IsDryRunOf T.answers ctx.now (view_node node.now)) }
 {
     let at = DryState::of(ctx);
     let mut run = DryRun::new(ctx);
     let info = node.node_info(&mut run)?;
-    Ok(AskedNode::new(at, info, run.into_items()))
+    Ok(OwnedPlan::new(at, info, run.into_items()))
 }
 
 /// Renders nodes one after another, each by its plan if it has one. `plan` is that of the node
@@ -193,7 +193,7 @@ pub(crate) fn render_all<'p, 's, T: EntryLike>(
     let mut plans = inside_plan(plan);
     for node in nodes {
         let known = next_plan(ctx, &mut plans);
-        node.render_by(ctx, known.as_ref())?;
+        node.render_with_plan(ctx, known.as_ref())?;
     }
     Ok(())
 }
@@ -238,7 +238,7 @@ fn render_if_it_prints<'p, 's, T: EntryLike>(
 {
     match plan {
         Some(plan) => render_by_plan(ctx, node, first, plan),
-        None => render_asked(ctx, node, first),
+        None => render_planning(ctx, node, first),
     }
 }
 
@@ -246,7 +246,7 @@ fn render_if_it_prints<'p, 's, T: EntryLike>(
 /// first. Returns whether it would print.
 #[cycle(render)]
 #[inline(never)]
-fn render_asked<'s, T: EntryLike>(
+fn render_planning<'s, T: EntryLike>(
     ctx: &mut Context<'s, T>,
     node: &'s LayoutRenderingElement,
     first: bool,
@@ -255,7 +255,7 @@ fn render_asked<'s, T: EntryLike>(
     ensures after { Runs (after_child T.answers first (view_node node.now))
         result ctx.old ctx.new }
 {
-    let asked = ask_node(ctx, node);
+    let asked = plan_node(ctx, node);
     let asked = ctx.attempt(asked)?;
     render_by_plan(ctx, node, first, &asked.plan())
 }
@@ -276,7 +276,7 @@ fn render_by_plan<'p, 's, T: EntryLike>(
 {
     let prints = plan.prints();
     if prints {
-        render_admitted(ctx, node, first, plan)?;
+        render_child(ctx, node, first, plan)?;
     } else {
         ctx.ensure_live()?;
     }
@@ -285,7 +285,7 @@ fn render_by_plan<'p, 's, T: EntryLike>(
 
 /// Renders a node, after the inherited delimiter unless it is the first.
 #[cycle(render)]
-fn render_admitted<'p, 's, T: EntryLike>(
+fn render_child<'p, 's, T: EntryLike>(
     ctx: &mut Context<'s, T>,
     node: &'s LayoutRenderingElement,
     first: bool,
@@ -301,14 +301,14 @@ fn render_admitted<'p, 's, T: EntryLike>(
             let delimited = ctx.push_elem()?;
             ctx.push_str(delimiter)?;
             let element = ctx.push_elem()?;
-            node.render_by(ctx, Some(plan))?;
+            node.render_with_plan(ctx, Some(plan))?;
             ctx.commit_elem(element, None, None)?;
             ctx.commit_elem(delimited, None, None)?;
             Ok(())
         }
         _ => {
             let element = ctx.push_elem()?;
-            node.render_by(ctx, Some(plan))?;
+            node.render_with_plan(ctx, Some(plan))?;
             ctx.commit_elem(element, None, None)?;
             Ok(())
         }

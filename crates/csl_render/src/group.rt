@@ -13,7 +13,7 @@ ghost use Rattle.csl_render.specs.Tree.{node_output, shown_if};
 use crate::dry_run::DryRun;
 use crate::element::{any_shows, nodes_info, render_with_delimiter};
 use crate::node::Node;
-use crate::plan::{AskedNode, DryState, NodeInfo, NodePlan};
+use crate::plan::{DryState, NodeInfo, NodePlan, OwnedPlan};
 use crate::query::Query;
 use csl_context::{BodyDressing, Context, Mark, RenderError};
 use csl_entry::EntryLike;
@@ -42,7 +42,7 @@ impl Node for Group {
     }
 
     #[cycle(render)]
-    fn render_by<'p, 's, T: EntryLike>(
+    fn render_with_plan<'p, 's, T: EntryLike>(
         &'s self,
         ctx: &mut Context<'s, T>,
         plan: Option<&NodePlan<'p>>,
@@ -56,13 +56,13 @@ impl Node for Group {
 
 /// The dry run of a group, and the state that it read.
 #[inline(never)]
-fn ask_group<'s, T: EntryLike>(ctx: &Context<'s, T>, group: &'s Group) -> Result<AskedNode, Memory>
+fn plan_group<'s, T: EntryLike>(ctx: &Context<'s, T>, group: &'s Group) -> Result<OwnedPlan, Memory>
     ensures { IfOk result (IsDryRunOf T.answers ctx.now (view_group group.now)) }
 {
     let at = DryState::of(ctx);
     let mut run = DryRun::new(ctx);
     let info = group.node_info(&mut run)?;
-    Ok(AskedNode::new(at, info, run.into_items()))
+    Ok(OwnedPlan::new(at, info, run.into_items()))
 }
 
 /// Renders a group by a dry run.
@@ -75,7 +75,7 @@ fn render_asked_group<'s, T: EntryLike>(
     ensures { Appends T.answers (λ w. node_output w (expanded w.style (view_group group.now)))
         result ctx.old ctx.new }
 {
-    let asked = ask_group(ctx, group);
+    let asked = plan_group(ctx, group);
     let asked = ctx.attempt(asked)?;
     render_group_by_plan(ctx, group, &asked.plan())
 }

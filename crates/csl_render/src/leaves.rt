@@ -42,7 +42,7 @@ impl Node for Number {
         Ok(number_shows(query.context(), self, query.variable()))
     }
 
-    fn render_by<'p, 's, T: EntryLike>(
+    fn render_with_plan<'p, 's, T: EntryLike>(
         &'s self,
         ctx: &mut Context<'s, T>,
         _plan: Option<&NodePlan<'p>>,
@@ -70,7 +70,7 @@ impl Node for Label {
         Ok(false)
     }
 
-    fn render_by<'p, 's, T: EntryLike>(
+    fn render_with_plan<'p, 's, T: EntryLike>(
         &'s self,
         ctx: &mut Context<'s, T>,
         _plan: Option<&NodePlan<'p>>,
@@ -108,7 +108,7 @@ impl Node for Date {
         Ok(date_shows(query.context(), self, query.variable()))
     }
 
-    fn render_by<'p, 's, T: EntryLike>(
+    fn render_with_plan<'p, 's, T: EntryLike>(
         &'s self,
         ctx: &mut Context<'s, T>,
         _plan: Option<&NodePlan<'p>>,

@@ -23,7 +23,7 @@ ghost use Rattle.csl_render.specs.Tree.{node_output, substitute_shows, substitut
 use crate::dry_run::DryRun;
 use crate::element::{any_shows, nodes_info};
 use crate::node::Node;
-use crate::plan::{AskedNode, DryState, NodeInfo, NodePlan, inside_plan, next_plan};
+use crate::plan::{DryState, NodeInfo, NodePlan, OwnedPlan, inside_plan, next_plan};
 use crate::query::Query;
 use crate::variable_set::with_names;
 use csl_context::{Context, RenderError};
@@ -312,7 +312,7 @@ impl Node for Names {
 
     #[cycle(render)]
     #[inline(never)]
-    fn render_by<'p, 's, T: EntryLike>(
+    fn render_with_plan<'p, 's, T: EntryLike>(
         &'s self,
         ctx: &mut Context<'s, T>,
         plan: Option<&NodePlan<'p>>,
@@ -352,13 +352,13 @@ fn names_or_substitute_show<'c, 's, T: EntryLike>(
 
 /// The dry run of names, and the state that it read.
 #[inline(never)]
-fn ask_names<'s, T: EntryLike>(ctx: &Context<'s, T>, names: &'s Names) -> Result<AskedNode, Memory>
+fn ask_names<'s, T: EntryLike>(ctx: &Context<'s, T>, names: &'s Names) -> Result<OwnedPlan, Memory>
     ensures { IfOk result (IsDryRunOf T.answers ctx.now (view_names names.now)) }
 {
     let at = DryState::of(ctx);
     let mut run = DryRun::new(ctx);
     let info = names.node_info(&mut run)?;
-    Ok(AskedNode::new(at, info, run.into_items()))
+    Ok(OwnedPlan::new(at, info, run.into_items()))
 }
 
 /// Renders names without a plan: by a dry run, if the special form asks whether they show the
@@ -580,7 +580,7 @@ fn render_in_place<'p, 's, T: EntryLike>(
 {
     match shorthand(node) {
         Some(names) => render_shorthand(ctx, names, original),
-        None => node.render_by(ctx, plan),
+        None => node.render_with_plan(ctx, plan),
     }
 }
 

@@ -45,7 +45,7 @@ pub(crate) trait Node {
         ensures kept { query.new ≡ query.old };
 
     /// Renders the node, by its plan if it has one.
-    fn render_by<'p, 's, T: EntryLike>(
+    fn render_with_plan<'p, 's, T: EntryLike>(
         &'s self,
         ctx: &mut Context<'s, T>,
         plan: Option<&NodePlan<'p>>,
@@ -78,6 +78,6 @@ impl<N: Node> RenderCsl for N {
     }
 
     fn render<'s, T: EntryLike>(&'s self, ctx: &mut Context<'s, T>) -> Result<(), RenderError> {
-        self.render_by(ctx, None)
+        self.render_with_plan(ctx, None)
     }
 }

@@ -147,23 +147,23 @@ impl DryState {
 /// What the dry run of a node gave: its answer, the plan of the nodes inside, and the state that it
 /// read.
 #[derive(Drop)]
-pub(crate) struct AskedNode {
+pub(crate) struct OwnedPlan {
     at: DryState,
     answer: (bool, UsageInfo),
     shows_author: bool,
     inside: Vec<PlanItem>,
 }
 
-impl AskedNode {
+impl OwnedPlan {
     /// An asked node from the state that the dry run read, its result, and the plan of the nodes
     /// inside.
-    pub(crate) fn new(at: DryState, info: NodeInfo, inside: Vec<PlanItem>) -> AskedNode
+    pub(crate) fn new(at: DryState, info: NodeInfo, inside: Vec<PlanItem>) -> OwnedPlan
         ensures at { result.at ≡ at }
         ensures answer { result.answer ≡ info.answer }
         ensures author { result.shows_author ≡ info.shows_author }
         ensures inside { result.inside.items ≡ inside.items }
     {
-        AskedNode {
+        OwnedPlan {
             at,
             answer: info.answer,
             shows_author: info.shows_author,

@@ -68,7 +68,7 @@ impl<'c, 's, T: EntryLike> Query<'c, 's, T> {
     }
 
     /// Whether a text that calls the macro at a place shows the variable, if the query has kept it.
-    pub(crate) fn known_call(&self, place: Option<usize>) -> Option<bool>
+    pub(crate) fn cached_call(&self, place: Option<usize>) -> Option<bool>
         ensures { IfSome result (λ shows. shows ≡ call_shows (render_input T.answers self.now.now)
             self.now.now.state self.now.variable (nodes_at self.now.now.style place)) }
     {
@@ -77,7 +77,7 @@ impl<'c, 's, T: EntryLike> Query<'c, 's, T> {
     }
 
     /// Keeps whether a text that calls the macro at a place, if there is one, shows the variable.
-    pub(crate) fn keep_call(&mut self, place: Option<usize>, shows: bool) -> Result<(), Memory>
+    pub(crate) fn cache_call(&mut self, place: Option<usize>, shows: bool) -> Result<(), Memory>
         requires { shows ≡ call_shows (render_input T.answers self.old.now) self.old.now.state
             self.old.variable (nodes_at self.old.now.style place) }
         ensures { self.new ≡ self.old }

@@ -14,7 +14,7 @@ use Rattle.csl_elements.specs.Names.{NamesNode}
 use Rattle.csl_elements.specs.NamesParts.{names_node, names_substitutes}
 use Rattle.csl_elements.specs.Node.{Node, names, Nodes, ExpandedNodes, expand, expand_nodes, expand_branches, expand_substitutes}
 use Rattle.csl_elements.specs.View.{NamesChildView, a_substitute, BranchView, view_names, view_nodes, view_choose, substitutes, element_step, child_step, choose_step, branch_step, group_step, names_step, substitute_step}
-use Rattle.csl_style.specs.declared.missing_term.Around.{Around}
+use Rattle.csl_style.specs.declared.missing_term.TermScope.{TermScope}
 use Rattle.csl_style.specs.declared.missing_term.Found.{Found}
 use Rattle.csl_style.specs.FoundTerms.{Finds, with_missing}
 use Rattle.csl_style.specs.MissingTerm.{AskedTerm, is_missing, has_asked, with_asked, each_once, asked_in_names, asked_in_child, asked_in_node, asked_in_nodes, asked_in_branches, asked_in_substitutes, inside_names}
@@ -23,12 +23,12 @@ use Rattle.csl_style.proofs.YearSuffixes.{behind, choose_out, nodes_out}
 pub names_view : (x : Names) → view_names x ≡ names (names_node x) (names_substitutes x)
 names_view x = rw (fold_out-Names Node NamesChildView Node BranchView Node Node Nodes element_step child_step choose_step branch_step group_step names_step substitute_step x) refl
 
-pub child_first : (ls : List Locale) (env : List ℕ → Option ExpandedNodes) (original : NamesNode) (a : Around) (c : NamesChildView) (cs : List NamesChildView)
+pub child_first : (ls : List Locale) (env : List ℕ → Option ExpandedNodes) (original : NamesNode) (a : TermScope) (c : NamesChildView) (cs : List NamesChildView)
     → asked_in_substitutes ls a (expand_substitutes env original (substitutes (c ∷ cs))) ≡ asked_in_child ls env original a c ++ asked_in_substitutes ls a (expand_substitutes env original (substitutes cs))
 child_first ls env original a (a_substitute ns) cs = refl
 child_first ls env original a other cs = refl
 
-module _ (ls : List Locale) (a : Around) (env : List ℕ → Option ExpandedNodes) where
+module _ (ls : List Locale) (a : TermScope) (env : List ℕ → Option ExpandedNodes) where
   pub names_asked : (x : Names) → asked_in_node ls a (expand env (view_names x)) ≡ asked_in_names a.writes_and (names_node x) ++ asked_in_substitutes ls (inside_names (names_node x) a) (expand_substitutes env (names_node x) (names_substitutes x))
   names_asked x = ap (λ n. asked_in_node ls a (expand env n)) (names_view x)
 

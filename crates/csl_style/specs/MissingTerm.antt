@@ -54,7 +54,7 @@ use Rattle.csl_elements.specs.Names.{NameNode, EtAlNode, LabelNode, NamesLabel, 
 use Rattle.csl_elements.specs.Node.{DateNode, DatePartNode, Target, of_variable, of_term, of_value, ExpandedNode, expanded_text, expanded_macro, unknown_macro, expanded_number, expanded_label, expanded_date, expanded_names, shorthand, expanded_choose, expanded_group, ExpandedNodes, no_expanded_nodes, expanded_node, ExpandedBranches, no_expanded_branches, expanded_otherwise, expanded_branch, ExpandedSubstitutes, no_expanded_substitutes, expanded_substitute, expand_substitute_nodes, expand_layout}
 use Rattle.csl_elements.specs.Term.{term_text, same_term}
 use Rattle.csl_elements.specs.View.{NamesChildView, a_name, an_et_al, a_label, a_substitute, view_date, view_layout}
-use Rattle.csl_style.specs.declared.missing_term.Around.{Around}
+use Rattle.csl_style.specs.declared.missing_term.TermScope.{TermScope}
 use Rattle.csl_style.specs.declared.style.settings.Scope.TheVariants.{Citation, Bibliography}
 use Rattle.csl_style.specs.declared.style.settings.StyleSettings.{StyleSettings}
 use Rattle.csl_style.specs.Expanded.{macro_env}
@@ -160,17 +160,17 @@ asked_in_names inherited n =
 -- ---- nodes, with all macros expanded, by what is around them
 
 -- inside a text, in quotes or not
-abbrev pub inside_text : Bool → Around → Around
-inside_text quotes a = record { writes_and = a.writes_and; in_quotes = if quotes then not a.in_quotes else a.in_quotes }
+abbrev pub within_text : Bool → TermScope → TermScope
+within_text quotes a = record { writes_and = a.writes_and; in_quotes = if quotes then not a.in_quotes else a.in_quotes }
 
 -- inside the substitutes of names
-abbrev pub inside_names : NamesNode → Around → Around
+abbrev pub inside_names : NamesNode → TermScope → TermScope
 inside_names n a = record { writes_and = writes_and n.options.and a.writes_and; in_quotes = a.in_quotes }
 
 abbrev mutual
-  pub asked_in_node : List Locale → Around → ExpandedNode → List AskedTerm
+  pub asked_in_node : List Locale → TermScope → ExpandedNode → List AskedTerm
   asked_in_node ls a (expanded_text t d) = asked_in_quotes d.quotes a.in_quotes ++ asked_in_target t
-  asked_in_node ls a (expanded_macro fs d) = asked_in_quotes d.quotes a.in_quotes ++ asked_in_nodes ls (inside_text d.quotes a) fs
+  asked_in_node ls a (expanded_macro fs d) = asked_in_quotes d.quotes a.in_quotes ++ asked_in_nodes ls (within_text d.quotes a) fs
   asked_in_node ls a unknown_macro = []
   asked_in_node ls a (expanded_number n) = []
   asked_in_node ls a (expanded_label v l) = asked_in_label v l.form
@@ -180,23 +180,23 @@ abbrev mutual
   asked_in_node ls a (expanded_choose cs) = asked_in_branches ls a cs
   asked_in_node ls a (expanded_group delimiter d fs) = asked_in_nodes ls a fs
 
-  pub asked_in_nodes : List Locale → Around → ExpandedNodes → List AskedTerm
+  pub asked_in_nodes : List Locale → TermScope → ExpandedNodes → List AskedTerm
   asked_in_nodes ls a no_expanded_nodes = []
   asked_in_nodes ls a (expanded_node f fs) = asked_in_node ls a f ++ asked_in_nodes ls a fs
 
   -- every branch, chosen or not
-  pub asked_in_branches : List Locale → Around → ExpandedBranches → List AskedTerm
+  pub asked_in_branches : List Locale → TermScope → ExpandedBranches → List AskedTerm
   asked_in_branches ls a no_expanded_branches = []
   asked_in_branches ls a (expanded_otherwise fs) = asked_in_nodes ls a fs
   asked_in_branches ls a (expanded_branch ts fs cs) = asked_in_nodes ls a fs ++ asked_in_branches ls a cs
 
   -- every substitute, also those that are never rendered
-  pub asked_in_substitutes : List Locale → Around → ExpandedSubstitutes → List AskedTerm
+  pub asked_in_substitutes : List Locale → TermScope → ExpandedSubstitutes → List AskedTerm
   asked_in_substitutes ls a no_expanded_substitutes = []
   asked_in_substitutes ls a (expanded_substitute fs is) = asked_in_nodes ls a fs ++ asked_in_substitutes ls a is
 
 -- by a child of names as written; only a substitute asks; only private contracts cite it
-abbrev pub asked_in_child : List Locale → (List ℕ → Option ExpandedNodes) → NamesNode → Around → NamesChildView → List AskedTerm
+abbrev pub asked_in_child : List Locale → (List ℕ → Option ExpandedNodes) → NamesNode → TermScope → NamesChildView → List AskedTerm
 asked_in_child ls env original a (a_name n) = []
 asked_in_child ls env original a (an_et_al e) = []
 asked_in_child ls env original a (a_label l) = []
@@ -210,15 +210,15 @@ standing_in original f (Some own) = shorthand own (shorthand_expansion original 
 
 -- ---- layouts
 
--- Around a layout, `and` is a word if it is in one of the two scopes, unless names set otherwise.
-abbrev pub around_layout : StyleSettings → Around
-around_layout s = record {
+-- TermScope a layout, `and` is a word if it is in one of the two scopes, unless names set otherwise.
+abbrev pub scope_of_layout : StyleSettings → TermScope
+scope_of_layout s = record {
   writes_and = writes_and (base_options Citation s).and false || writes_and (base_options Bibliography s).and false;
   in_quotes = false;
 }
 
 abbrev pub asked_terms : StyleParts → Layout → List AskedTerm
-asked_terms s l = asked_in_nodes s.locales (around_layout s.settings) (expand_layout (macro_env s) (view_layout l)).elements
+asked_terms s l = asked_in_nodes s.locales (scope_of_layout s.settings) (expand_layout (macro_env s) (view_layout l)).elements
 
 -- ---- which of them are missing
 

@@ -12,7 +12,7 @@ ghost use Rattle.csl_elements.specs.declared.term.Term.TheVariants as terms;
 ghost use Rattle.csl_elements.specs.declared.term.TermForm.TheVariants as forms;
 ghost use Rattle.csl_style.specs.Expanded.{macro_env};
 ghost use Rattle.csl_style.specs.FoundTerms.{Finds};
-ghost use Rattle.csl_style.specs.MissingTerm.{word, is_missing, with_asked, asked_in_two_quotes, asked_in_quotes, kinds_with_term, kind_terms, asked_in_label, asked_in_part, asked_in_parts, asked_in_date, writes_and, and_of_name, asked_in_and, et_al_term, label_on, asked_in_names_label, asked_in_names, inside_text, inside_names, asked_in_node, asked_in_nodes, asked_in_child, standing_in, around_layout, missing_terms, missing_term};
+ghost use Rattle.csl_style.specs.MissingTerm.{word, is_missing, with_asked, asked_in_two_quotes, asked_in_quotes, kinds_with_term, kind_terms, asked_in_label, asked_in_part, asked_in_parts, asked_in_date, writes_and, and_of_name, asked_in_and, et_al_term, label_on, asked_in_names_label, asked_in_names, within_text, inside_names, asked_in_node, asked_in_nodes, asked_in_child, standing_in, scope_of_layout, missing_terms, missing_term};
 
 use crate::style::{Scope, Style};
 use csl_common::{Memory, Season};
@@ -25,7 +25,7 @@ use std::alloc::Global;
 
 /// What is around a node and decides what the node asks for.
 #[derive(Clone, Copy)]
-pub(crate) struct Around {
+pub(crate) struct TermScope {
     /// Whether names write `and` as a word unless they set otherwise.
     writes_and: bool,
     /// Whether the number of quotes around is odd.
@@ -322,12 +322,12 @@ fn ask_names(found: &mut Found, style: &Style, parts: NamesParts<'_>, inherited:
     ask_names_label(found, style, label_on(parts, true), parts.variables);
 }
 
-impl Around {
+impl TermScope {
     /// What is around the nodes inside a text.
-    fn inside_text(self, quotes: bool) -> Around
-        ensures { result ≡ inside_text quotes self }
+    fn within_text(self, quotes: bool) -> TermScope
+        ensures { result ≡ within_text quotes self }
     {
-        Around {
+        TermScope {
             in_quotes: if quotes {
                 !self.in_quotes
             } else {
@@ -338,10 +338,10 @@ impl Around {
     }
 
     /// What is around the substitutes of names.
-    fn inside_names(self, parts: NamesParts<'_>) -> Around
+    fn inside_names(self, parts: NamesParts<'_>) -> TermScope
         ensures { result ≡ inside_names (parts_node parts.entry) self }
     {
-        Around {
+        TermScope {
             writes_and: writes_and(parts.options.and, self.writes_and),
             ..self
         }
@@ -385,7 +385,7 @@ fn visit<'s>(
     found: &mut Found,
     style: &'s Style,
     element: &'s LayoutRenderingElement,
-    around: Around,
+    around: TermScope,
 )
     ensures { Finds style.now.locales (asked_in_node style.now.locales around
         (expand (macro_env style.now) (view_node element.now))) found.old found.new }
@@ -409,7 +409,7 @@ fn visit_all<'s>(
     found: &mut Found,
     style: &'s Style,
     elements: &'s [LayoutRenderingElement],
-    around: Around,
+    around: TermScope,
 )
     ensures { Finds style.now.locales (asked_in_nodes style.now.locales around
         (expand_nodes (macro_env style.now) (view_nodes elements.now))) found.old found.new }
@@ -421,7 +421,7 @@ fn visit_all<'s>(
 
 /// Asks for the terms of a text, and of the macro that it calls.
 #[cycle(terms)]
-fn visit_text<'s>(found: &mut Found, style: &'s Style, text: &'s Text, around: Around)
+fn visit_text<'s>(found: &mut Found, style: &'s Style, text: &'s Text, around: TermScope)
     ensures { Finds style.now.locales (asked_in_node style.now.locales around
         (expand (macro_env style.now) (view_text text.now))) found.old found.new }
 {
@@ -440,7 +440,7 @@ fn visit_text<'s>(found: &mut Found, style: &'s Style, text: &'s Text, around: A
                     found,
                     style,
                     &called.children,
-                    around.inside_text(text.quotes),
+                    around.within_text(text.quotes),
                 );
             }
         }
@@ -449,7 +449,7 @@ fn visit_text<'s>(found: &mut Found, style: &'s Style, text: &'s Text, around: A
 
 /// Asks for the terms of names, and of their substitutes.
 #[cycle(terms)]
-fn visit_names<'s>(found: &mut Found, style: &'s Style, names: &'s Names, around: Around)
+fn visit_names<'s>(found: &mut Found, style: &'s Style, names: &'s Names, around: TermScope)
     ensures { Finds style.now.locales (asked_in_node style.now.locales around
         (expand (macro_env style.now) (view_names names.now))) found.old found.new }
 {
@@ -468,7 +468,7 @@ fn visit_child<'s>(
     style: &'s Style,
     child: &'s NamesChild,
     original: NamesParts<'s>,
-    around: Around,
+    around: TermScope,
 )
     ensures { Finds style.now.locales (asked_in_child style.now.locales (macro_env style.now)
         (parts_node original.entry) around (view_child child.now)) found.old found.new }
@@ -488,7 +488,7 @@ fn visit_substitute<'s>(
     style: &'s Style,
     elements: &'s [LayoutRenderingElement],
     original: NamesParts<'s>,
-    around: Around,
+    around: TermScope,
 )
     ensures { Finds style.now.locales (asked_in_nodes style.now.locales around
         (expand_substitute_nodes (macro_env style.now) (parts_node original.entry)
@@ -507,7 +507,7 @@ fn visit_place<'s>(
     style: &'s Style,
     element: &'s LayoutRenderingElement,
     original: NamesParts<'s>,
-    around: Around,
+    around: TermScope,
 )
     ensures { Finds style.now.locales (asked_in_node style.now.locales around
         (as_substitute_child (parts_node original.entry) (view_node element.now)
@@ -524,7 +524,7 @@ fn visit_place<'s>(
 
 /// Asks for the terms of the branches of a choice, then of its `otherwise` nodes.
 #[cycle(terms)]
-fn visit_choose<'s>(found: &mut Found, style: &'s Style, choose: &'s Choose, around: Around)
+fn visit_choose<'s>(found: &mut Found, style: &'s Style, choose: &'s Choose, around: TermScope)
     ensures { Finds style.now.locales (asked_in_node style.now.locales around
         (expand (macro_env style.now) (view_choose choose.now))) found.old found.new }
 {
@@ -539,12 +539,12 @@ fn visit_choose<'s>(found: &mut Found, style: &'s Style, choose: &'s Choose, aro
 }
 
 /// What is around a layout of a style: no quotes, and `and` as a word if it is one in a scope.
-fn around_layout(style: &Style) -> Around
-    ensures { result ≡ around_layout style.now.settings }
+fn scope_of_layout(style: &Style) -> TermScope
+    ensures { result ≡ scope_of_layout style.now.settings }
 {
     let in_citation = writes_and(style.base_name_options(Scope::Citation).and, false);
     let in_bibliography = writes_and(style.base_name_options(Scope::Bibliography).and, false);
-    Around {
+    TermScope {
         writes_and: in_citation || in_bibliography,
         in_quotes: false,
     }
@@ -583,7 +583,7 @@ impl Style {
             first: None,
             all: Some(Vec::new(alloc)),
         };
-        visit_all(&mut found, self, &layout.elements, around_layout(self));
+        visit_all(&mut found, self, &layout.elements, scope_of_layout(self));
         found.all.ok_or(Memory)
     }
 
@@ -595,7 +595,7 @@ impl Style {
             first: None,
             all: None,
         };
-        visit_all(&mut found, self, &layout.elements, around_layout(self));
+        visit_all(&mut found, self, &layout.elements, scope_of_layout(self));
         found.first
     }
 }

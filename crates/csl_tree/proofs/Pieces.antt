@@ -8,11 +8,11 @@ use Rattle.csl_tree.specs.declared.marks.Element.{Element}
 use Rattle.csl_tree.specs.declared.marks.Element.TheVariants as element
 use Rattle.csl_tree.specs.Escapes.{escape, escape_all, is_reserved}
 use Rattle.csl_tree.specs.Html.{div, span, anchor}
-use Rattle.csl_tree.specs.Marks.{without, reference_at, byte_at, div_at, span_at, end_at, BeginsNoStart, Piece, start_piece, end_piece, byte_piece, piece_bytes, BeginsNoPiece}
+use Rattle.csl_tree.specs.Marks.{without, reference_at, byte_at, div_at, span_at, read_end_tag, BeginsNoStart, Piece, start_piece, end_piece, byte_piece, piece_bytes, BeginsNoPiece}
 use Rattle.csl_tree.specs.Read.{pieces_bytes, piece_text, pieces_text, within_after, within_after_all}
 use Rattle.csl_tree.proofs.Fronts.{without-append}
 use Rattle.csl_tree.proofs.Escaped.{byte_at-escape, same_pair, texts_tell, which, escape-plain, escape_long}
-use Rattle.csl_tree.proofs.Tags.{div_at-start, span_at-start, end_at-bytes, anchor_bytes, anchor-split}
+use Rattle.csl_tree.proofs.Tags.{div_at-start, span_at-start, read_end_tag-bytes, anchor_bytes, anchor-split}
 
 -- ---- the sort of a piece
 
@@ -79,7 +79,7 @@ piece_tells (start_piece (span f)) t x y h = absurd (omega (arith, one_sort (sta
 piece_tells (start_piece (anchor u)) (start_piece (anchor v)) x y h = ((λ w. refl, refl), anchors_tell u v x y h)
 piece_tells (start_piece (anchor u)) t x y h = absurd (omega (arith, one_sort (start_piece (anchor u)) t x y h))
 piece_tells (end_piece d) (end_piece e) x y h =
-    let p = same_pair d e x y (sym (end_at-bytes d x) ∙ ap end_at h ∙ end_at-bytes e y) in
+    let p = same_pair d e x y (sym (read_end_tag-bytes d x) ∙ ap read_end_tag h ∙ read_end_tag-bytes e y) in
     ((λ w. ap (λ (k : Element). within_after w (end_piece k)) p.0, refl), p.1)
 piece_tells (end_piece d) (start_piece (div e)) x y h = absurd (omega (arith, one_sort (end_piece d) (start_piece (div e)) x y h))
 piece_tells (end_piece d) (start_piece (span f)) x y h = absurd (omega (arith, one_sort (end_piece d) (start_piece (span f)) x y h))
@@ -134,7 +134,7 @@ pieces_tell (s ∷ ss) (t ∷ ts) x h =
 
 -- ---- the results of the code
 
-pub no_piece : (html : List ℕ) → byte_at html ≡ None → BeginsNoStart html → None ≡ end_at html → BeginsNoPiece html
+pub no_piece : (html : List ℕ) → byte_at html ≡ None → BeginsNoStart html → None ≡ read_end_tag html → BeginsNoPiece html
 no_piece html h k m (start_piece tag) more e = k tag more e
-no_piece html h k m (end_piece d) more e = absurd (cc (m ∙ ap end_at e ∙ end_at-bytes d more))
+no_piece html h k m (end_piece d) more e = absurd (cc (m ∙ ap read_end_tag e ∙ read_end_tag-bytes d more))
 no_piece html h k m (byte_piece b) more e = absurd (cc (sym h ∙ ap byte_at e ∙ byte_at-escape b more))

@@ -18,7 +18,7 @@ use Rattle.csl_tree.specs.declared.marks.Element.{Element}
 use Rattle.csl_tree.specs.declared.marks.Element.TheVariants as element
 use Rattle.csl_tree.specs.Escapes.{escape_all}
 use Rattle.csl_tree.specs.Html.{div, span, anchor, css, style_css, weight_css, decoration_css, variant_css, align_css, div_start}
-use Rattle.csl_tree.specs.Marks.{end_bytes, without, after, or_else, entity_at, reference_at, div_at, span_at, end_at, after_css, after_style, after_weight, after_decoration, after_variant, after_align, IsAfterText, IsAfterAnchor, IsStart, BeginsNoStart}
+use Rattle.csl_tree.specs.Marks.{end_bytes, without, after, or_else, entity_at, reference_at, div_at, span_at, read_end_tag, after_css, after_style, after_weight, after_decoration, after_variant, after_align, IsAfterText, IsAfterAnchor, IsStart, BeginsNoStart}
 use Rattle.csl_tree.proofs.Fronts.{without-append, without-is}
 use Rattle.csl_tree.proofs.Escaped.{or_else-is, named-is, texts_tell}
 
@@ -223,18 +223,18 @@ none_found html h k m (anchor url) more e = m url more e
 
 -- ---- end tags
 
-pub end_at-bytes : (e : Element) (more : List ℕ) → end_at (end_bytes e ++ more) ≡ Some (e, more)
-unfolding end_at
-end_at-bytes element.Div more = refl
-end_at-bytes element.Span more = refl
-end_at-bytes element.Anchor more = refl
+pub read_end_tag-bytes : (e : Element) (more : List ℕ) → read_end_tag (end_bytes e ++ more) ≡ Some (e, more)
+unfolding read_end_tag
+read_end_tag-bytes element.Div more = refl
+read_end_tag-bytes element.Span more = refl
+read_end_tag-bytes element.Anchor more = refl
 
 ended : (o : Element) (e : Element) (bs more : List ℕ) → entity_at o (end_bytes o) bs ≡ Some (e, more) → bs ≡ end_bytes e ++ more
 ended o e bs more h = let k = named-is o e (end_bytes o) bs more h in k.1 ∙ ap (λ (x : Element). end_bytes x ++ more) k.0
 
-pub end_at-is : (bs : List ℕ) (e : Element) (more : List ℕ) → end_at bs ≡ Some (e, more) → bs ≡ end_bytes e ++ more
-unfolding end_at
-end_at-is bs e more h =
+pub read_end_tag-is : (bs : List ℕ) (e : Element) (more : List ℕ) → read_end_tag bs ≡ Some (e, more) → bs ≡ end_bytes e ++ more
+unfolding read_end_tag
+read_end_tag-is bs e more h =
     let o : Element → Option (Element × List ℕ) = λ x. entity_at x (end_bytes x) bs in
     elim (or_else-is (o element.Div) (or_else (o element.Span) (o element.Anchor)) (e, more) h) [
       | inl k ↦ ended element.Div e bs more k

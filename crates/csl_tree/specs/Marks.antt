@@ -120,8 +120,8 @@ after_css bs = after_align (after_variant (after_decoration (after_weight (after
 unfoldable pub span_at : List ℕ → Option (List ℕ)
 span_at bs = option_and_then (λ rest. without (codes "\">") (after_css rest)) (without (codes "<span style=\"") bs)
 
-unfoldable pub end_at : List ℕ → Option (Element × List ℕ)
-end_at bs =
+unfoldable pub read_end_tag : List ℕ → Option (Element × List ℕ)
+read_end_tag bs =
     or_else (entity_at Div (codes "</div>") bs)
     (or_else (entity_at Span (codes "</span>") bs)
     (entity_at Anchor (codes "</a>") bs))

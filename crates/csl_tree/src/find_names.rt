@@ -117,7 +117,7 @@ impl ElemChildren {
     }
 
     /// The first element of a `cs:names`, as a mutable reference. There must be one.
-    fn that_names_mut(&mut self) -> &mut Elem
+    fn existing_names_mut(&mut self) -> &mut Elem
         requires { IsTrue (is_some (names_find self.old)) }
         ensures* writes_back { sem 𝓛 (lends_that_names self.entry result) }
         ensures value { Some result.now ≡ first_names self.old }
@@ -135,7 +135,7 @@ impl ElemChildren {
         ensures value { option_map (λ e. e.now) result ≡ find is_names (preorder self.old) }
     {
         if self.names_at().is_some() {
-            Some(self.that_names_mut())
+            Some(self.existing_names_mut())
         } else {
             None
         }

@@ -78,7 +78,7 @@ impl ElemChildren {
     }
 
     /// The last text, as a mutable reference. There must be one.
-    fn that_text_mut(&mut self) -> &mut Formatted
+    fn existing_text_mut(&mut self) -> &mut Formatted
         requires { IsTrue (is_some (last_text self.old)) }
         ensures* writes_back { sem 𝓛 (lends_that_text self.entry result) }
         ensures value { Some result.now ≡ last_text self.old }
@@ -95,7 +95,7 @@ impl ElemChildren {
         ensures value { option_map (λ t. t.now) result ≡ last_text self.old }
     {
         if self.last_text().is_some() {
-            Some(self.that_text_mut())
+            Some(self.existing_text_mut())
         } else {
             None
         }

@@ -3,7 +3,7 @@
 ghost use Rattle.std.specs.Prelude.{◌≡◌, ◌<◌, ◌++◌, length, Option, None, IfSome, IfNone};
 ghost use Rattle.csl_tree.specs.Escapes.{escape_all};
 ghost use Rattle.csl_tree.specs.Marks.{reference_at, byte_at, texts_found, as_text, IsAfterText};
-ghost use Rattle.csl_tree.specs.Marks.{div_at, span_at, end_at, after_weight, after_align, after_css, rest_found, values_found};
+ghost use Rattle.csl_tree.specs.Marks.{div_at, span_at, read_end_tag, after_weight, after_align, after_css, rest_found, values_found};
 ghost use Rattle.csl_tree.specs.Marks.{after, IsAfterAnchor, IsStart, BeginsNoStart, IsMark, BeginsNoPiece};
 
 use crate::escapes::split_plain;
@@ -147,7 +147,7 @@ fn after_anchor(html: &str) -> Option<&str>
 }
 
 /// The element whose start tag HTML begins with, and the rest.
-fn start_at(html: &str) -> Option<(Element, &str)>
+fn read_start_tag(html: &str) -> Option<(Element, &str)>
     ensures found { IfSome result (λ x. IsStart html.now x.0 x.1.now) }
     ensures none { IfNone result (BeginsNoStart html.now) }
 {
@@ -164,9 +164,9 @@ fn start_at(html: &str) -> Option<(Element, &str)>
 }
 
 /// The element whose end tag HTML begins with, and the rest.
-#[tactic(auto, unfolding(crate::specs::Marks::end_at), using(crate::proofs::Fronts::stripped))]
-fn end_at(html: &str) -> Option<(Element, &str)>
-    ensures { values_found result ≡ end_at html.now }
+#[tactic(auto, unfolding(crate::specs::Marks::read_end_tag), using(crate::proofs::Fronts::stripped))]
+fn read_end_tag(html: &str) -> Option<(Element, &str)>
+    ensures { values_found result ≡ read_end_tag html.now }
 {
     if let Some(rest) = html.strip_prefix("</div>") {
         return Some((Element::Div, rest));
@@ -181,17 +181,17 @@ fn end_at(html: &str) -> Option<(Element, &str)>
 }
 
 /// The tag or the text that HTML begins with, and the rest.
-pub fn mark_at(html: &str) -> Option<(Mark<'_>, &str)>
+pub fn read_piece(html: &str) -> Option<(Mark<'_>, &str)>
     ensures found { IfSome result (λ x. IsMark html.now x.0 x.1.now) }
     ensures none { IfNone result (BeginsNoPiece html.now) }
 {
     if let Some((text, rest)) = text_at(html) {
         return Some((Mark::Text(text), rest));
     }
-    if let Some((element, rest)) = start_at(html) {
+    if let Some((element, rest)) = read_start_tag(html) {
         return Some((Mark::Start(element), rest));
     }
-    match end_at(html) {
+    match read_end_tag(html) {
         Some((element, rest)) => Some((Mark::End(element), rest)),
         None => None,
     }

@@ -10,7 +10,7 @@ ghost use Rattle.csl_tree.specs.declared.elem.ElemChildren.{ElemChildren};
 ghost use Rattle.csl_tree.specs.declared.elem.BufWriteFormat.TheVariants.{Html};
 
 use crate::html_error::HtmlError;
-use crate::marks::{Element, Mark, mark_at};
+use crate::marks::{Element, Mark, read_piece};
 use std::alloc::{AllocError, Global};
 
 /// The state of reading HTML.
@@ -91,7 +91,7 @@ pub fn leaf_text_of_html(alloc: Global, html: &str) -> Result<String, HtmlError>
         leaves: String::new(alloc),
     };
     let mut rest = html;
-    while let Some((mark, next)) = mark_at(rest) {
+    while let Some((mark, next)) = read_piece(rest) {
         if !reading.take(mark)? {
             return Err(HtmlError::NotHtml);
         }

@@ -26,7 +26,7 @@ impl Entry {
         ensures { IfOk result (λ e. works e ≡ works self.now) }
     {
         let parents = self.copy_parents(alloc)?;
-        let copy = self.copy_under(parents, alloc)?;
+        let copy = self.copy_with_parents(parents, alloc)?;
         Ok(copy)
     }
 
@@ -56,13 +56,13 @@ impl Entry {
         ensures ok { OnOk result
             (map works copies.new.items ≡ map works copies.old.items ++ works self.now ∷ []) }
     {
-        let copy = self.copy_under(above, alloc)?;
+        let copy = self.copy_with_parents(above, alloc)?;
         copies.push(copy)?;
         Ok(())
     }
 
     /// A copy of the entry's own fields, with the given parents.
-    fn copy_under(&self, parents: Vec<Entry>, alloc: Global) -> Result<Entry, Memory>
+    fn copy_with_parents(&self, parents: Vec<Entry>, alloc: Global) -> Result<Entry, Memory>
         ensures own { IfOk result (λ e. own_of e ≡ own_of self.now) }
         ensures parents { IfOk result (λ e. parents_of e ≡ parents.items) }
     {

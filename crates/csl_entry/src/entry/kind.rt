@@ -3,7 +3,7 @@
 ghost use Rattle.std.specs.Prelude.{◌≡◌, ◌↔◌, ◌∷◌, [], IsTrue, IsSome, IfSome, IfNone};
 ghost use Rattle.lit_model.specs.declared.entry_type.EntryType.TheVariants.{Legislation};
 ghost use Rattle.csl_elements.specs.declared.taxonomy.Kind.TheVariants as kind;
-ghost use Rattle.csl_entry.specs.EntryKind.{typing_of, TypingIsShown, is_a, stands_in, is_journal_article, is_newspaper_article, is_conference_paper, is_report, is_thesis, is_periodical, is_recording, is_musical_score, is_motion_picture, is_song, is_blog_post, is_post, is_online, is_figure, is_kind, kinds_among, recording_kinds, legislation_kinds};
+ghost use Rattle.csl_entry.specs.EntryKind.{typing_of, TypingIsShown, is_a, is_part_of, is_journal_article, is_newspaper_article, is_conference_paper, is_report, is_thesis, is_periodical, is_recording, is_musical_score, is_motion_picture, is_song, is_blog_post, is_post, is_online, is_figure, is_kind, kinds_among, recording_kinds, legislation_kinds};
 
 use csl_elements::Kind;
 use lit_model::{Bind, Clause, Entry, EntryType};
@@ -69,7 +69,7 @@ pub(crate) fn is_of_kind(entry: &Entry, kind: Kind) -> bool
         Kind::Collection => entry.entry_type == EntryType::Anthology,
         Kind::Document => entry.entry_type == EntryType::Misc,
         Kind::Entry => is_entry(entry),
-        Kind::EntryEncyclopedia => stands_in(entry, &[EntryType::Reference]),
+        Kind::EntryEncyclopedia => is_part_of(entry, &[EntryType::Reference]),
         Kind::Event => entry.entry_type == EntryType::Exhibition,
         Kind::Figure => is_figure(entry),
         Kind::Graphic => is_graphic(entry),
@@ -94,8 +94,8 @@ pub(crate) fn is_of_kind(entry: &Entry, kind: Kind) -> bool
 }
 
 /// Whether a direct parent of the entry is of one of these types.
-fn stands_in(entry: &Entry, types: &[EntryType]) -> bool
-    ensures { result ≡ stands_in types.now (typing_of entry.now) }
+fn is_part_of(entry: &Entry, types: &[EntryType]) -> bool
+    ensures { result ≡ is_part_of types.now (typing_of entry.now) }
 {
     entry.matches(&[Clause {
         own: &[],
@@ -108,31 +108,31 @@ fn stands_in(entry: &Entry, types: &[EntryType]) -> bool
 fn is_journal_article(entry: &Entry) -> bool
     ensures { result ≡ is_journal_article (typing_of entry.now) }
 {
-    entry.entry_type == EntryType::Article && stands_in(entry, &[EntryType::Periodical])
+    entry.entry_type == EntryType::Article && is_part_of(entry, &[EntryType::Periodical])
 }
 
 fn is_newspaper_article(entry: &Entry) -> bool
     ensures { result ≡ is_newspaper_article (typing_of entry.now) }
 {
-    entry.entry_type == EntryType::Article && stands_in(entry, &[EntryType::Newspaper])
+    entry.entry_type == EntryType::Article && is_part_of(entry, &[EntryType::Newspaper])
 }
 
 fn is_conference_paper(entry: &Entry) -> bool
     ensures { result ≡ is_conference_paper (typing_of entry.now) }
 {
-    entry.entry_type == EntryType::Article && stands_in(entry, &[EntryType::Proceedings])
+    entry.entry_type == EntryType::Article && is_part_of(entry, &[EntryType::Proceedings])
 }
 
 fn is_report(entry: &Entry) -> bool
     ensures { result ≡ is_report (typing_of entry.now) }
 {
-    entry.entry_type == EntryType::Report || stands_in(entry, &[EntryType::Report])
+    entry.entry_type == EntryType::Report || is_part_of(entry, &[EntryType::Report])
 }
 
 fn is_thesis(entry: &Entry) -> bool
     ensures { result ≡ is_thesis (typing_of entry.now) }
 {
-    entry.entry_type == EntryType::Thesis || stands_in(entry, &[EntryType::Thesis])
+    entry.entry_type == EntryType::Thesis || is_part_of(entry, &[EntryType::Thesis])
 }
 
 /// Whether the entry is an article, but of no narrower kind of article, not a report or a thesis,
@@ -152,7 +152,7 @@ fn is_article(entry: &Entry) -> bool
 fn is_periodical(entry: &Entry) -> bool
     ensures { result ≡ is_periodical (typing_of entry.now) }
 {
-    entry.entry_type == EntryType::Book && stands_in(entry, &[EntryType::Periodical])
+    entry.entry_type == EntryType::Book && is_part_of(entry, &[EntryType::Periodical])
 }
 
 fn is_book(entry: &Entry) -> bool
@@ -166,8 +166,8 @@ fn is_chapter(entry: &Entry) -> bool
     ensures { result ≡ is_kind kind.Chapter (typing_of entry.now) }
 {
     match entry.entry_type {
-        EntryType::Anthos => stands_in(entry, &[EntryType::Anthology]),
-        EntryType::Chapter => stands_in(
+        EntryType::Anthos => is_part_of(entry, &[EntryType::Anthology]),
+        EntryType::Chapter => is_part_of(
             entry,
             &[
                 EntryType::Book,
@@ -182,7 +182,7 @@ fn is_chapter(entry: &Entry) -> bool
 fn is_entry(entry: &Entry) -> bool
     ensures { result ≡ is_kind kind.Entry (typing_of entry.now) }
 {
-    entry.entry_type == EntryType::Entry && !stands_in(entry, &[EntryType::Reference])
+    entry.entry_type == EntryType::Entry && !is_part_of(entry, &[EntryType::Reference])
 }
 
 fn is_recording(entry: &Entry) -> bool
@@ -197,7 +197,7 @@ fn is_musical_score(entry: &Entry) -> bool
     ensures { result ≡ is_musical_score (typing_of entry.now) }
 {
     entry.entry_type == EntryType::Audio
-        && stands_in(
+        && is_part_of(
             entry,
             &[
                 EntryType::Book,
@@ -247,13 +247,13 @@ fn is_bill(entry: &Entry) -> bool
 fn is_blog_post(entry: &Entry) -> bool
     ensures { result ≡ is_blog_post (typing_of entry.now) }
 {
-    stands_in(entry, &[EntryType::Blog])
+    is_part_of(entry, &[EntryType::Blog])
 }
 
 fn is_post(entry: &Entry) -> bool
     ensures { result ≡ is_post (typing_of entry.now) }
 {
-    entry.entry_type == EntryType::Post || stands_in(entry, &[EntryType::Thread])
+    entry.entry_type == EntryType::Post || is_part_of(entry, &[EntryType::Thread])
 }
 
 /// Whether the entry is a site, a blog or a thread, is in a site or a blog, or is of no type of its
@@ -262,7 +262,7 @@ fn is_online(entry: &Entry) -> bool
     ensures { result ≡ is_online (typing_of entry.now) }
 {
     (entry.entry_type == EntryType::Misc && entry.url.is_some())
-        || stands_in(entry, &[EntryType::Web, EntryType::Blog])
+        || is_part_of(entry, &[EntryType::Web, EntryType::Blog])
         || entry.entry_type == EntryType::Web
         || entry.entry_type == EntryType::Blog
         || entry.entry_type == EntryType::Thread
@@ -277,7 +277,7 @@ fn is_webpage(entry: &Entry) -> bool
 fn is_figure(entry: &Entry) -> bool
     ensures { result ≡ is_figure (typing_of entry.now) }
 {
-    entry.entry_type == EntryType::Artwork && stands_in(entry, &[EntryType::Article])
+    entry.entry_type == EntryType::Artwork && is_part_of(entry, &[EntryType::Article])
 }
 
 fn is_graphic(entry: &Entry) -> bool

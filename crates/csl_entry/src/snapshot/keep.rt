@@ -71,7 +71,7 @@ fn own_person(alloc: Global, person: Cow<'_, Person>) -> Result<Person, Memory>
 }
 
 /// The persons, owned.
-fn own_people(alloc: Global, people: Vec<Cow<'_, Person>>) -> Result<Vec<Person>, Memory>
+fn owned_persons(alloc: Global, people: Vec<Cow<'_, Person>>) -> Result<Vec<Person>, Memory>
     ensures { IfOk result (λ own. map person_view own.items
         ≡ map (cow_view person_view) people.entry.items) }
 {
@@ -177,7 +177,7 @@ pub(super) fn names<T: EntryLike>(
     let mut kept = Vec::new(alloc);
     for variable in variables {
         let found = entry.resolve_name_variable(alloc, *variable)?;
-        let own = own_people(alloc, found)?;
+        let own = owned_persons(alloc, found)?;
         keep(&mut kept, *variable, some_people(own))?;
     }
     Ok(kept)

@@ -11,23 +11,23 @@ use Rattle.csl_render.specs.Tree.{nodes_output, delimited_output, output_until_t
 use Rattle.csl_nodes.specs.Text.{render_output, with_output}
 use Rattle.csl_render.proofs.+render.Given as goal
 
-abbrev pub decreases-element::LayoutRenderingElementNode::render_by : goal.decreases-element::LayoutRenderingElementNode::render_by
-decreases-element::LayoutRenderingElementNode::render_by g l = 8 * size (expand (macro_env l.ctx.now.style) (view_node l.self.now)) + 3
+abbrev pub decreases-element::LayoutRenderingElementNode::render_with_plan : goal.decreases-element::LayoutRenderingElementNode::render_with_plan
+decreases-element::LayoutRenderingElementNode::render_with_plan g l = 8 * size (expand (macro_env l.ctx.now.style) (view_node l.self.now)) + 3
 
-abbrev pub decreases-text::TextNode::render_by : goal.decreases-text::TextNode::render_by
-decreases-text::TextNode::render_by g l = 8 * size (expand (macro_env l.ctx.now.style) (view_text l.self.now))
+abbrev pub decreases-text::TextNode::render_with_plan : goal.decreases-text::TextNode::render_with_plan
+decreases-text::TextNode::render_with_plan g l = 8 * size (expand (macro_env l.ctx.now.style) (view_text l.self.now))
 
 abbrev pub decreases-text::render_call : goal.decreases-text::render_call
 decreases-text::render_call g l = 8 * sizes (expand_nodes (macro_env l.ctx.now.style) (view_nodes l.nodes.now)) + 3
 
-abbrev pub decreases-text::render_asked_call : goal.decreases-text::render_asked_call
-decreases-text::render_asked_call g l = 8 * sizes (expand_nodes (macro_env l.ctx.now.style) (view_nodes l.nodes.now)) + 2
+abbrev pub decreases-text::render_planning_call : goal.decreases-text::render_planning_call
+decreases-text::render_planning_call g l = 8 * sizes (expand_nodes (macro_env l.ctx.now.style) (view_nodes l.nodes.now)) + 2
 
 abbrev pub decreases-text::render_macro : goal.decreases-text::render_macro
 decreases-text::render_macro g l = 8 * sizes (expand_nodes (macro_env l.ctx.now.style) (view_nodes l.nodes.now)) + 1
 
-abbrev pub decreases-group::GroupNode::render_by : goal.decreases-group::GroupNode::render_by
-decreases-group::GroupNode::render_by g l = 8 * size (expand (macro_env l.ctx.now.style) (view_group l.self.now)) + 2
+abbrev pub decreases-group::GroupNode::render_with_plan : goal.decreases-group::GroupNode::render_with_plan
+decreases-group::GroupNode::render_with_plan g l = 8 * size (expand (macro_env l.ctx.now.style) (view_group l.self.now)) + 2
 
 abbrev pub decreases-group::render_asked_group : goal.decreases-group::render_asked_group
 decreases-group::render_asked_group g l = 8 * size (expand (macro_env l.ctx.now.style) (view_group l.group.now)) + 1
@@ -35,11 +35,11 @@ decreases-group::render_asked_group g l = 8 * size (expand (macro_env l.ctx.now.
 abbrev pub decreases-group::render_group_by_plan : goal.decreases-group::render_group_by_plan
 decreases-group::render_group_by_plan g l = 8 * size (expand (macro_env l.ctx.now.style) (view_group l.group.now))
 
-abbrev pub decreases-choose::ChooseNode::render_by : goal.decreases-choose::ChooseNode::render_by
-decreases-choose::ChooseNode::render_by g l = 8 * size (expand (macro_env l.ctx.now.style) (view_choose l.self.now))
+abbrev pub decreases-choose::ChooseNode::render_with_plan : goal.decreases-choose::ChooseNode::render_with_plan
+decreases-choose::ChooseNode::render_with_plan g l = 8 * size (expand (macro_env l.ctx.now.style) (view_choose l.self.now))
 
-abbrev pub decreases-names::NamesNode::render_by : goal.decreases-names::NamesNode::render_by
-decreases-names::NamesNode::render_by g l = 8 * size (expand (macro_env l.ctx.now.style) (view_names l.self.now))
+abbrev pub decreases-names::NamesNode::render_with_plan : goal.decreases-names::NamesNode::render_with_plan
+decreases-names::NamesNode::render_with_plan g l = 8 * size (expand (macro_env l.ctx.now.style) (view_names l.self.now))
 
 abbrev pub decreases-names::render_unplanned_names : goal.decreases-names::render_unplanned_names
 decreases-names::render_unplanned_names g l = 8 * expanded_substitutes_size (expanded_substitutes_of (macro_env l.ctx.now.style) l.names.now) + 6
@@ -74,14 +74,14 @@ decreases-element::render_all g l = 8 * sizes (expand_nodes (macro_env l.ctx.now
 abbrev pub decreases-element::render_with_delimiter : goal.decreases-element::render_with_delimiter
 decreases-element::render_with_delimiter g l = 8 * sizes (expand_nodes (macro_env l.ctx.now.style) (view_nodes l.nodes.now))
 
-abbrev pub decreases-element::render_admitted : goal.decreases-element::render_admitted
-decreases-element::render_admitted g l = 8 * size (expand (macro_env l.ctx.now.style) (view_node l.node.now)) + 4
+abbrev pub decreases-element::render_child : goal.decreases-element::render_child
+decreases-element::render_child g l = 8 * size (expand (macro_env l.ctx.now.style) (view_node l.node.now)) + 4
 
 abbrev pub decreases-element::render_by_plan : goal.decreases-element::render_by_plan
 decreases-element::render_by_plan g l = 8 * size (expand (macro_env l.ctx.now.style) (view_node l.node.now)) + 5
 
-abbrev pub decreases-element::render_asked : goal.decreases-element::render_asked
-decreases-element::render_asked g l = 8 * size (expand (macro_env l.ctx.now.style) (view_node l.node.now)) + 6
+abbrev pub decreases-element::render_planning : goal.decreases-element::render_planning
+decreases-element::render_planning g l = 8 * size (expand (macro_env l.ctx.now.style) (view_node l.node.now)) + 6
 
 abbrev pub decreases-element::render_if_it_prints : goal.decreases-element::render_if_it_prints
 decreases-element::render_if_it_prints g l = 8 * size (expand (macro_env l.ctx.now.style) (view_node l.node.now)) + 7

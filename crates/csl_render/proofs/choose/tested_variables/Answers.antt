@@ -8,15 +8,15 @@ use Rattle.csl_render.proofs.choose.tested_variables.Goals as goal
 
 pub loop-branch-init : goal.loop-branch-init
 loop-branch-init c s within rest = (
-  tested_within c.tested_by-set.result s within (view_branch (out-Choose c.args.choose.now).if_).tests c.tested_by-set.ensures,
+  tested_within c.variables_of_tests-set.result s within (view_branch (out-Choose c.args.choose.now).if_).tests c.variables_of_tests-set.ensures,
   subst (Each (λ b. HasTested s (view_branch b).tests)) c.deref-branch-items.ensures.value rest,
 )
 
 pub loop-branch-preserved : goal.loop-branch-preserved
 loop-branch-preserved c s within rest =
     let branch = c.branch-item.result in
-    let here = tested_within c.tested_by.result s (λ v h. within v (right_within c.loop-branch.set c.tested_by.result c.union-set.result c.union-set.ensures v h)) (view_branch branch).tests c.tested_by.ensures in
-    c.loop-branch.invariant s (λ v h. within v (left_within c.loop-branch.set c.tested_by.result c.union-set.result c.union-set.ensures v h))
+    let here = tested_within c.variables_of_tests.result s (λ v h. within v (right_within c.loop-branch.set c.variables_of_tests.result c.union-set.result c.union-set.ensures v h)) (view_branch branch).tests c.variables_of_tests.ensures in
+    c.loop-branch.invariant s (λ v h. within v (left_within c.loop-branch.set c.variables_of_tests.result c.union-set.result c.union-set.ensures v h))
     (each_from (λ b. HasTested s (view_branch b).tests) c.deref-branch-items.result.now c.loop-branch.branch-index branch c.loop-branch-test.true
     (subst (λ b. HasTested s (view_branch b).tests) c.branch-item.is here) rest)
 

@@ -9,7 +9,7 @@ where_none None h n = n
 where_none (Some x) h n = cc
 
 pub returns-then-is_some : goal.returns-then-is_some
-returns-then-is_some c = (refl, record { writes_back = tt; value = c.that_names_mut.ensures.value ∙ sym (first_is c.args.self.now) })
+returns-then-is_some c = (refl, record { writes_back = tt; value = c.existing_names_mut.ensures.value ∙ sym (first_is c.args.self.now) })
 
 pub returns-else-is_some : goal.returns-else-is_some
 returns-else-is_some c =

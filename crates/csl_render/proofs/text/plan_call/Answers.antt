@@ -7,7 +7,7 @@ use Rattle.csl_nodes.specs.Usage.{without_group_flag, macro_info}
 use Rattle.csl_render.specs.DryRun.{Adds, Run}
 use Rattle.csl_render.specs.Plan.{dry_now, dry_view, IsInfo, IsInfoOfNodes}
 use Rattle.csl_render.proofs.Plans.{adds_as, asked, around}
-use Rattle.csl_render.proofs.text.ask_call.Goals as goal
+use Rattle.csl_render.proofs.text.plan_call.Goals as goal
 
 pub returns : goal.returns
 returns g c =

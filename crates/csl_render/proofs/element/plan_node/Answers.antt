@@ -6,7 +6,7 @@ use Rattle.csl_context.specs.Context.{render_input}
 use Rattle.csl_render.specs.DryRun.{Adds}
 use Rattle.csl_render.specs.Plan.{dry_now, dry_view, IsInfo}
 use Rattle.csl_render.proofs.Plans.{asked}
-use Rattle.csl_render.proofs.element.ask_node.Goals as goal
+use Rattle.csl_render.proofs.element.plan_node.Goals as goal
 
 pub returns : goal.returns
 returns g c =

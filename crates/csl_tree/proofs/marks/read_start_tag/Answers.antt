@@ -1,6 +1,6 @@
 use Rattle.std.proofs.Common.{rules}
 use Rattle.csl_tree.proofs.Tags.{div_found, span_found, none_found}
-use Rattle.csl_tree.proofs.marks.start_at.Goals as goal
+use Rattle.csl_tree.proofs.marks.read_start_tag.Goals as goal
 
 pub returns-in-Some-clause-found : goal.returns-in-Some-clause-found
 returns-in-Some-clause-found c = div_found c.args.html.now c.in-Some.rest.now (search rules)

@@ -7,7 +7,7 @@ use Rattle.csl_render.specs.Plan.{AreOfTaken}
 use Rattle.csl_render.specs.Tree.{choice_shows, choice_output}
 use Rattle.csl_render.proofs.Chosen.{shows_of_choice, tree_of_choice, some_within}
 use Rattle.csl_render.proofs.Plans.{planned_nodes}
-use Rattle.csl_render.proofs.choose.taken_nodes.Goals as goal
+use Rattle.csl_render.proofs.choose.chosen_children.Goals as goal
 
 pub returns-in-Ok-clause-within : goal.returns-in-Ok-clause-within
 returns-in-Ok-clause-within g c =

@@ -1,6 +1,6 @@
 use Rattle.std.proofs.Common.{refl, ◌∙◌, arith}
 use Rattle.csl_tree.proofs.NamesPlace.{has_here, put_names, names_are, child_here}
-use Rattle.csl_tree.proofs.elem.ElemChildren.that_names_mut.Goals as goal
+use Rattle.csl_tree.proofs.elem.ElemChildren.existing_names_mut.Goals as goal
 
 pub first_of_names-first-requires : goal.first_of_names-first-requires
 first_of_names-first-requires c = has_here c.args.self.now c.requires c.names_items_mut-items.result.now c.names_items_mut-items.ensures.value

@@ -4,7 +4,7 @@ use Rattle.csl_render.specs.declared.plan.NodeInfo.{NodeInfo}
 use Rattle.csl_render.specs.DryRun.{IsCallInfo, nodes_at}
 use Rattle.csl_render.specs.Plan.{dry_now}
 use Rattle.csl_render.proofs.DryRuns.{learned, unchanged}
-use Rattle.csl_render.proofs.dry_run.DryRun.keep_call.Goals as goal
+use Rattle.csl_render.proofs.dry_run.DryRun.cache_call.Goals as goal
 
 pub invariant_of-self : goal.invariant_of-self
 invariant_of-self g c =

@@ -1,7 +1,7 @@
 use Rattle.std.proofs.Common.{◌≡◌, ◌-◌, ◌∙◌, ap, refl, length, arith, is_some}
 use Rattle.csl_tree.specs.Places.{text_of_child}
 use Rattle.csl_tree.proofs.LastPlace.{put_text, final_is, has_final, text_at_end}
-use Rattle.csl_tree.proofs.elem.ElemChildren.that_text_mut.Goals as goal
+use Rattle.csl_tree.proofs.elem.ElemChildren.existing_text_mut.Goals as goal
 
 pub overflow_sub-last : goal.overflow_sub-last
 overflow_sub-last c =

@@ -2,7 +2,7 @@ use Rattle.std.proofs.Common.{◌≡◌, ◌++◌, map}
 use Rattle.std.specs.Vec.Iter.{into_iter_items}
 use Rattle.lit_model.specs.Person.{person_view}
 use Rattle.csl_entry.specs.Answers.{cow_view}
-use Rattle.csl_entry.proofs.snapshot.keep.own_people.Given as goal
+use Rattle.csl_entry.proofs.snapshot.keep.owned_persons.Given as goal
 
 -- the persons so far, and the remaining ones, are all
 abbrev pub invariant-loop-person : goal.invariant-loop-person

@@ -2,7 +2,7 @@ use Rattle.std.proofs.Common.{◌≡◌, ℕ, Bool, Some}
 use Rattle.csl_context.specs.Context.{render_input}
 use Rattle.csl_render.specs.DryRun.{call_shows, nodes_at}
 use Rattle.csl_render.proofs.DryRuns.{learned}
-use Rattle.csl_render.proofs.query.Query.keep_call.Goals as goal
+use Rattle.csl_render.proofs.query.Query.cache_call.Goals as goal
 
 pub invariant_of-self : goal.invariant_of-self
 invariant_of-self g c =

@@ -1,7 +1,7 @@
 use Rattle.std.proofs.Common.{subst}
 use Rattle.csl_render.specs.Plan.{HasTested}
 use Rattle.csl_render.proofs.VariableSets.{each_within, tests_out}
-use Rattle.csl_render.proofs.choose.tested_by.Goals as goal
+use Rattle.csl_render.proofs.choose.variables_of_tests.Goals as goal
 
 pub returns : goal.returns
 returns c =

@@ -6,7 +6,7 @@ use Rattle.csl_context.specs.Context.{render_input}
 use Rattle.csl_render.specs.DryRun.{Adds}
 use Rattle.csl_render.specs.Plan.{dry_now, dry_view, IsInfo}
 use Rattle.csl_render.proofs.Plans.{asked}
-use Rattle.csl_render.proofs.group.ask_group.Goals as goal
+use Rattle.csl_render.proofs.group.plan_group.Goals as goal
 
 pub returns : goal.returns
 returns g c =
