@@ -159,6 +159,12 @@ as_substitute_child original (names n ss) f = if is_childless n ss then shorthan
 as_substitute_child original (choose bs) f = f
 as_substitute_child original (group delimiter d ns) f = f
 
+-- a child of the substitute of the names `original`: names without children (`own`) are in the
+-- place of `original`, any other node is as elsewhere (`f`)
+abbrev pub standing_in : NamesNode → ExpandedNode → Option NamesNode → ExpandedNode
+standing_in original f None = f
+standing_in original f (Some own) = shorthand own (shorthand_expansion original own)
+
 -- A node with each macro name replaced by the nodes that it stands for.
 abbrev mutual
   pub expand : (List ℕ → Option ExpandedNodes) → Node → ExpandedNode

@@ -2,13 +2,13 @@
 //! also has parts of the names around it.
 
 ghost use Rattle.std.specs.Prelude.{◌≡◌, false, map, option_map};
-ghost use Rattle.csl_elements.specs.Names.{first_of, first_name, shorthand_expansion, view_name, view_et_al, view_part};
-ghost use Rattle.csl_elements.specs.Node.{names, is_childless};
-ghost use Rattle.csl_elements.specs.View.{view_child, view_names, view_substitute, name_children, first_et_al, first_label, substitutes};
+ghost use Rattle.csl_elements.specs.Names.{NamesNode, first_of, first_name, shorthand_expansion, view_name, view_et_al, view_part};
+ghost use Rattle.csl_elements.specs.Node.{ExpandedNode, names, is_childless, as_substitute_child, standing_in};
+ghost use Rattle.csl_elements.specs.View.{view_child, view_names, view_node, view_substitute, name_children, first_et_al, first_label, substitutes};
 ghost use Rattle.csl_elements.specs.NamesParts.{names_node, names_substitutes, first_substitute, parts_node, placed_label, default_name, first_part};
 
 use crate::affixes::Affixes;
-use crate::element::{Names, NamesChild, Substitute};
+use crate::element::{LayoutRenderingElement, Names, NamesChild, Substitute};
 use crate::formatting::{Display, Formatting};
 use crate::names::{
     EtAl, InheritableNameOptions, InheritedNameOptions, Name, NamePart, NamePartName,
@@ -40,6 +40,26 @@ pub struct PlacedLabel<'s> {
     pub is_after: bool,
 }
 
+impl LayoutRenderingElement {
+    /// The node, if it is a `cs:names` without children. Directly in a substitute, such names are
+    /// rendered in the place of the names around it (CSL 1.0.2, Substitute).
+    pub fn childless_names(&self) -> Option<&Names>
+        ensures { (original : NamesNode) → (f : ExpandedNode)
+            → as_substitute_child original (view_node self.now) f
+            ≡ standing_in original f (option_map (λ n. names_node n.now) result) }
+    {
+        match self {
+            LayoutRenderingElement::Names(names) => names.if_childless(),
+            LayoutRenderingElement::Text(_)
+            | LayoutRenderingElement::Number(_)
+            | LayoutRenderingElement::Label(_)
+            | LayoutRenderingElement::Date(_)
+            | LayoutRenderingElement::Choose(_)
+            | LayoutRenderingElement::Group(_) => None,
+        }
+    }
+}
+
 impl Names {
     /// The parts of the names node itself.
     pub fn parts(&self) -> NamesParts<'_>
@@ -66,6 +86,20 @@ impl Names {
         ensures { result ≡ is_childless (names_node self.now) (names_substitutes self.now) }
     {
         self.children.is_empty()
+    }
+
+    /// The node itself, if it has no children.
+    #[tactic(auto, using(crate::proofs::Rolled::names_view))]
+    fn if_childless(&self) -> Option<&Names>
+        ensures { (original : NamesNode) → (f : ExpandedNode)
+            → as_substitute_child original (view_names self.now) f
+            ≡ standing_in original f (option_map (λ n. names_node n.now) result) }
+    {
+        if self.is_childless() {
+            Some(self)
+        } else {
+            None
+        }
     }
 
     /// The parts of the node in the place of another: the children of `original`, and the node's

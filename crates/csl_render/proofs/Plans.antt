@@ -38,7 +38,7 @@ use Rattle.csl_render.specs.Tree.{info, nodes_info, substitute_info, choice_info
 use Rattle.csl_elements.specs.VariableSet.{Has, IsWithin}
 use Rattle.csl_render.proofs.Chosen.{IsChoice, is_choice, choice_out, info_of_choice, shows_of_choice}
 use Rattle.csl_render.proofs.GroupView.{group_out}
-use Rattle.csl_render.proofs.NamesView.{names_out}
+use Rattle.csl_elements.proofs.Rolled.{names_view}
 use Rattle.csl_render.proofs.Reading.{matches_same, lists_same, alike_within, alike_to_itself}
 use Rattle.csl_render.proofs.Within.{info_by, shows_of_substitute, asked_by}
 
@@ -156,10 +156,10 @@ one_more w d f fs rest all i start now next from before more =
 
 -- the plan of the nodes inside names is that of their first substitute
 pub substitutes_inside : (w : RenderInput) (d : DryView) (s : State) (env : List ℕ → Option ExpandedNodes) (x : Names) (is : List PlanItem) → AreInside w d s (expand env (view_names x)) is → AreOfSubstitutes w d (expanded_substitutes_of env x) is
-substitutes_inside w d s env x is h = subst (λ n. AreInside w d s (expand env n) is) (names_out x) h
+substitutes_inside w d s env x is h = subst (λ n. AreInside w d s (expand env n) is) (names_view x) h
 
 pub names_asked : (w : RenderInput) (d : DryView) (s : State) (env : List ℕ → Option ExpandedNodes) (x : Names) (is : List PlanItem) → AreOfSubstitutes w d (expanded_substitutes_of env x) is → AreInside w d s (expand env (view_names x)) is
-names_asked w d s env x is h = subst (λ n. AreInside w d s (expand env n) is) (sym (names_out x)) h
+names_asked w d s env x is h = subst (λ n. AreInside w d s (expand env n) is) (sym (names_view x)) h
 
 -- what a dry run from an empty plan gives
 pub asked : {T : Type 0} (answers : T → Answers) (now : ContextView T) (f : ExpandedNode) (i : NodeInfo) (end : Run T) (r : OwnedPlan) → Adds (IsInfo (render_input answers now) (dry_now now) f i) (record { now = now; items = [] }) end
@@ -311,4 +311,4 @@ pub around_names : (w : RenderInput) (s : State) (env : List ℕ → Option Expa
     → (answer_of r ≡ told_by (names_node x) (expanded_substitutes_of env x) w empty void u) × TellsAuthor w r.shows_author (shown_by (names_node x) (expanded_substitutes_of env x) w empty u))
     → AreOfSubstitutes w (dry w.instance.special s) (expanded_substitutes_of env x) is → IsInfo w (dry w.instance.special s) (expand env (view_names x)) r is
 around_names w s env x own empty void r is has within empties voids tells inside =
-    subst (λ m. IsInfo w (dry w.instance.special s) (expand env m) r is) (sym (names_out x)) (names_told (names_node x) (expanded_substitutes_of env x) w s own empty void r is has within empties voids tells inside)
+    subst (λ m. IsInfo w (dry w.instance.special s) (expand env m) r is) (sym (names_view x)) (names_told (names_node x) (expanded_substitutes_of env x) w s own empty void r is has within empties voids tells inside)

@@ -82,12 +82,6 @@ substitute_has_names_of v (expanded_substitute fs is) = any_is_names_of v fs
 abbrev pub expanded_substitutes_of : (List ℕ → Option ExpandedNodes) → Names → ExpandedSubstitutes
 expanded_substitutes_of env n = expand_substitutes env (names_node n) (names_substitutes n)
 
--- a child of the substitute of the names `original`: names without children (`own`) are in the
--- place of `original`, any other node is as elsewhere
-abbrev pub standing_in : NamesNode → ExpandedNode → Option NamesNode → ExpandedNode
-standing_in original f None = f
-standing_in original f (Some own) = shorthand own (shorthand_expansion original own)
-
 -- ---- special forms
 -- If the cite shows one variable alone, names stay if it is one of theirs. Names without persons
 -- also stay if names of it are directly in their substitute, not in a group, a choice or a macro

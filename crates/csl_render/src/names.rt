@@ -13,7 +13,7 @@ ghost use Rattle.csl_names.specs.NamesForms.{writes_no_name};
 ghost use Rattle.csl_names.specs.NamesLists.{all_empty, peeked_lists, list_of};
 ghost use Rattle.csl_render.specs.DryRun.{Adds};
 ghost use Rattle.csl_render.specs.Expanded.{expanded, expanded_substitutes};
-ghost use Rattle.csl_render.specs.Names.{Macros, author, has_variable, is_of_names, is_names_of, any_is_names_of, substitute_has_names_of, expanded_substitutes_of, standing_in, refuses_alone, is_refused, names_show, names_or_substitute_info, in_substitute, suppressing_from, boxed_substitute};
+ghost use Rattle.csl_render.specs.Names.{Macros, author, has_variable, is_of_names, is_names_of, any_is_names_of, substitute_has_names_of, expanded_substitutes_of, refuses_alone, is_refused, names_show, names_or_substitute_info, in_substitute, suppressing_from, boxed_substitute};
 ghost use Rattle.csl_nodes.specs.Text.{Appends, render_output};
 ghost use Rattle.csl_nodes.specs.Usage.{info_view, no_info};
 ghost use Rattle.csl_render.specs.Plan.{asks_for_author, dry_now, IsInfoOfSubstitutes, IsDryRunOf, TellsAuthorOf, IsPlanOf, HasPlansOf, HasPlansWithin};
@@ -533,37 +533,6 @@ fn render_until_text<'p, 's, T: EntryLike>(
     Ok(())
 }
 
-/// The node, if it is a `cs:names` without children.
-fn shorthand(node: &LayoutRenderingElement) -> Option<&Names>
-    ensures { (original : NamesNode) → (f : ExpandedNode) → as_substitute_child original
-        (view_node node.now) f
-        ≡ standing_in original f (option_map (λ n. names_node n.now) result) }
-{
-    match node {
-        LayoutRenderingElement::Text(_) => None,
-        LayoutRenderingElement::Number(_) => None,
-        LayoutRenderingElement::Label(_) => None,
-        LayoutRenderingElement::Date(_) => None,
-        LayoutRenderingElement::Names(names) => childless_names(names),
-        LayoutRenderingElement::Choose(_) => None,
-        LayoutRenderingElement::Group(_) => None,
-    }
-}
-
-/// The names, if they have no children.
-#[tactic(auto, using(crate::proofs::NamesView::names_out))]
-fn childless_names(names: &Names) -> Option<&Names>
-    ensures { (original : NamesNode) → (f : ExpandedNode) → as_substitute_child original
-        (view_names names.now) f
-        ≡ standing_in original f (option_map (λ n. names_node n.now) result) }
-{
-    if names.is_childless() {
-        Some(names)
-    } else {
-        None
-    }
-}
-
 /// Renders a child of a substitute, by its plan if it has one. Names without children are rendered
 /// in the place of the names around the substitute.
 #[cycle(render)]
@@ -578,7 +547,7 @@ fn render_in_place<'p, 's, T: EntryLike>(
         (names_node original.now) (view_node node.now) (expanded w.style (view_node node.now))))
         result ctx.old ctx.new }
 {
-    match shorthand(node) {
+    match node.childless_names() {
         Some(names) => render_shorthand(ctx, names, original),
         None => node.render_with_plan(ctx, plan),
     }

@@ -1,27 +1,24 @@
--- A names node as data, one child of names before others, and what is found after terms that are asked
+-- What names, choices and lists ask for: one child of names before others, and what is found after terms that are asked
 -- for one after the other.
 use Rattle.std.proofs.Common.{◌≡◌, ℕ, ◌+◌, ◌<◌, ◌≤◌, List, [], ◌∷◌, ◌++◌, length, get_or, slice_get, drop, subst, Bool, true, false, cond, Option, Some, None, filter, find, IfSome, Vec, Global, refl, sym, ap, ◌∙◌, arith, option_map, if◌then◌else◌, Result, Ok, Err, IfOk}
 use Rattle.std.proofs.lemmas.Grind.{fold-append}
 use Rattle.std.proofs.lemmas.List.{drop_more, drop_all}
 use Rattle.std.specs.List.{fold}
 use Rattle.std.specs.Option.{option_or}
-use Rattle.csl_elements.specs.declared.element.LayoutRenderingElement.TheFolds.{fold_out-Names}
 use Rattle.csl_elements.specs.declared.element.Choose.{Choose, out-Choose}
 use Rattle.csl_elements.specs.declared.element.ChooseBranch.{out-ChooseBranch}
 use Rattle.csl_elements.specs.declared.element.Names.{Names}
 use Rattle.csl_elements.specs.declared.locale.Locale.{Locale}
 use Rattle.csl_elements.specs.Names.{NamesNode}
 use Rattle.csl_elements.specs.NamesParts.{names_node, names_substitutes}
-use Rattle.csl_elements.specs.Node.{Node, names, Nodes, ExpandedNodes, expand, expand_nodes, expand_branches, expand_substitutes}
-use Rattle.csl_elements.specs.View.{NamesChildView, a_substitute, BranchView, view_names, view_nodes, view_choose, substitutes, element_step, child_step, choose_step, branch_step, group_step, names_step, substitute_step}
+use Rattle.csl_elements.specs.Node.{Nodes, ExpandedNodes, expand, expand_nodes, expand_branches, expand_substitutes}
+use Rattle.csl_elements.specs.View.{NamesChildView, a_substitute, view_names, view_nodes, view_choose, substitutes}
+use Rattle.csl_elements.proofs.Rolled.{names_view}
 use Rattle.csl_style.specs.declared.missing_term.TermScope.{TermScope}
 use Rattle.csl_style.specs.declared.missing_term.Found.{Found}
 use Rattle.csl_style.specs.FoundTerms.{Finds, with_missing}
 use Rattle.csl_style.specs.MissingTerm.{AskedTerm, is_missing, has_asked, with_asked, each_once, asked_in_names, asked_in_child, asked_in_node, asked_in_nodes, asked_in_branches, asked_in_substitutes, inside_names}
 use Rattle.csl_style.proofs.YearSuffixes.{behind, choose_out, nodes_out}
-
-pub names_view : (x : Names) → view_names x ≡ names (names_node x) (names_substitutes x)
-names_view x = rw (fold_out-Names Node NamesChildView Node BranchView Node Node Nodes element_step child_step choose_step branch_step group_step names_step substitute_step x) refl
 
 pub child_first : (ls : List Locale) (env : List ℕ → Option ExpandedNodes) (original : NamesNode) (a : TermScope) (c : NamesChildView) (cs : List NamesChildView)
     → asked_in_substitutes ls a (expand_substitutes env original (substitutes (c ∷ cs))) ≡ asked_in_child ls env original a c ++ asked_in_substitutes ls a (expand_substitutes env original (substitutes cs))

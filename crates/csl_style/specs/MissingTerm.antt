@@ -202,12 +202,6 @@ asked_in_child ls env original a (an_et_al e) = []
 asked_in_child ls env original a (a_label l) = []
 asked_in_child ls env original a (a_substitute ns) = asked_in_nodes ls a (expand_substitute_nodes env original ns)
 
--- a child of a substitute of names, which is `f` unless it is names without children; only private
--- contracts cite it
-abbrev pub standing_in : NamesNode → ExpandedNode → Option NamesNode → ExpandedNode
-standing_in original f None = f
-standing_in original f (Some own) = shorthand own (shorthand_expansion original own)
-
 -- ---- layouts
 
 -- TermScope a layout, `and` is a word if it is in one of the two scopes, unless names set otherwise.

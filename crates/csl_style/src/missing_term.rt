@@ -12,7 +12,7 @@ ghost use Rattle.csl_elements.specs.declared.term.Term.TheVariants as terms;
 ghost use Rattle.csl_elements.specs.declared.term.TermForm.TheVariants as forms;
 ghost use Rattle.csl_style.specs.Expanded.{macro_env};
 ghost use Rattle.csl_style.specs.FoundTerms.{Finds};
-ghost use Rattle.csl_style.specs.MissingTerm.{word, is_missing, with_asked, asked_in_two_quotes, asked_in_quotes, kinds_with_term, kind_terms, asked_in_label, asked_in_part, asked_in_parts, asked_in_date, writes_and, and_of_name, asked_in_and, et_al_term, label_on, asked_in_names_label, asked_in_names, within_text, inside_names, asked_in_node, asked_in_nodes, asked_in_child, standing_in, scope_of_layout, missing_terms, missing_term};
+ghost use Rattle.csl_style.specs.MissingTerm.{word, is_missing, with_asked, asked_in_two_quotes, asked_in_quotes, kinds_with_term, kind_terms, asked_in_label, asked_in_part, asked_in_parts, asked_in_date, writes_and, and_of_name, asked_in_and, et_al_term, label_on, asked_in_names_label, asked_in_names, within_text, inside_names, asked_in_node, asked_in_nodes, asked_in_child, scope_of_layout, missing_terms, missing_term};
 
 use crate::style::{Scope, Style};
 use csl_common::{Memory, Season};
@@ -348,37 +348,6 @@ impl TermScope {
     }
 }
 
-/// The node, if it is names without children.
-fn shorthand(node: &LayoutRenderingElement) -> Option<&Names>
-    ensures { (original : NamesNode) → (f : ExpandedNode) → as_substitute_child original
-        (view_node node.now) f
-        ≡ standing_in original f (option_map (λ n. names_node n.now) result) }
-{
-    match node {
-        LayoutRenderingElement::Text(_) => None,
-        LayoutRenderingElement::Number(_) => None,
-        LayoutRenderingElement::Label(_) => None,
-        LayoutRenderingElement::Date(_) => None,
-        LayoutRenderingElement::Names(names) => childless_names(names),
-        LayoutRenderingElement::Choose(_) => None,
-        LayoutRenderingElement::Group(_) => None,
-    }
-}
-
-/// The names, if they have no children.
-#[tactic(auto, using(crate::proofs::AskedTerms::names_view))]
-fn childless_names(names: &Names) -> Option<&Names>
-    ensures { (original : NamesNode) → (f : ExpandedNode) → as_substitute_child original
-        (view_names names.now) f
-        ≡ standing_in original f (option_map (λ n. names_node n.now) result) }
-{
-    if names.is_childless() {
-        Some(names)
-    } else {
-        None
-    }
-}
-
 /// Asks for the terms of an element.
 #[cycle(terms)]
 fn visit<'s>(
@@ -513,7 +482,7 @@ fn visit_place<'s>(
         (as_substitute_child (parts_node original.entry) (view_node element.now)
         (expand (macro_env style.now) (view_node element.now)))) found.old found.new }
 {
-    match shorthand(element) {
+    match element.childless_names() {
         Some(names) => {
             let parts = names.parts_in_place_of(original);
             ask_names(found, style, parts, around.writes_and)
