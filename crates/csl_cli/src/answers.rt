@@ -1,7 +1,7 @@
 //! The answers to parsed commands.
 
 ghost use Rattle.std.specs.Prelude.{◌≡◌, ◌⊎◌, true, OnOk, OnErr, Err, IfOk, IsErrOf};
-ghost use Rattle.csl_cli.specs.Answers.{IsAnswer, IsRefused, TakesLine, answer_text, truth_text};
+ghost use Rattle.csl_cli.specs.Answers as spec;
 ghost use Rattle.csl_cli.specs.Command.{command_verdict};
 
 use crate::command::Command;
@@ -29,11 +29,11 @@ pub enum Answer {
 /// - [`HtmlError::Memory`]: out of memory.
 #[tactic(auto, using(crate::proofs::Titles::title_is_written))]
 pub fn answer_to(alloc: Global, command: Command<'_>) -> Result<Answer, HtmlError>
-    ensures ok { IfOk result (λ answer. IsAnswer (command_verdict command.entry)
-        (answer_text answer)) }
-    ensures not_html { IsErrOf result HtmlError.NotHtml → IsRefused
+    ensures ok { IfOk result (λ answer. spec.IsAnswer (command_verdict command.entry)
+        (spec.answer_text answer)) }
+    ensures not_html { IsErrOf result HtmlError.NotHtml → spec.IsRefused
         (command_verdict command.entry) }
-    ensures refused { IsRefused (command_verdict command.entry)
+    ensures refused { spec.IsRefused (command_verdict command.entry)
         → (result ≡ Err HtmlError.NotHtml) ⊎ (result ≡ Err HtmlError.Memory) }
 {
     match command {
@@ -65,7 +65,7 @@ pub fn answer_to(alloc: Global, command: Command<'_>) -> Result<Answer, HtmlErro
 }
 
 fn truth_text(truth: bool) -> &'static str
-    ensures { result.now ≡ truth_text truth }
+    ensures { result.now ≡ spec.truth_text truth }
 {
     if truth { "true" } else { "false" }
 }
@@ -73,7 +73,8 @@ fn truth_text(truth: bool) -> &'static str
 /// Writes an answer and a newline.
 #[tactic(auto, using(csl_common::proofs::Writes::two_writes))]
 pub fn write_answer<S: Sink>(answer: &Answer, out: &mut S) -> fmt::Result
-    ensures ok { OnOk result (TakesLine S.write_str_gives out.old (answer_text answer.now) out.new) }
+    ensures ok { OnOk result (spec.TakesLine S.write_str_gives out.old (spec.answer_text answer.now)
+        out.new) }
     ensures kept { OnOk result (S.refused out.new ≡ S.refused out.old) }
     ensures err { OnErr result (S.refused out.new ≡ true) }
 {

@@ -5,7 +5,7 @@
 ghost use Rattle.std.specs.Prelude.{◌≡◌, ◌<◌, ◌||◌, length, false, is_some, IfOk};
 ghost use Rattle.std.specs.Bool.{OnTrue};
 ghost use Rattle.csl_elements.specs.Dressing.{affix_texts};
-ghost use Rattle.csl_context.specs.Bodies.{body_attributes, has_affixes, values_before, HasOpenBody, with_affixes_closed, with_quotes_closed, with_parts_opened, with_body_inherited, with_open_body, with_closed_body, moved_in, around_body, with_formatting};
+ghost use Rattle.csl_context.specs.Bodies as spec;
 ghost use Rattle.csl_context.specs.Quotes.{toggled_if};
 ghost use Rattle.csl_context.specs.Context.{Runs};
 
@@ -33,7 +33,7 @@ pub struct OpenBody {
 
 /// Whether there is a prefix or a suffix.
 fn has_affixes(affixes: &Affixes) -> bool
-    ensures { result ≡ has_affixes (affix_texts affixes.now) }
+    ensures { result ≡ spec.has_affixes (affix_texts affixes.now) }
 {
     affixes.prefix.is_some() || affixes.suffix.is_some()
 }
@@ -50,7 +50,8 @@ impl<'s, T> Context<'s, T> {
     /// quotes, if there are any.
     fn open_parts(&mut self, around: BodyDressing<'_>) -> Result<(), RenderError>
         requires live { self.old.failed ≡ false }
-        ensures { Runs (with_parts_opened (body_attributes around.entry)) result self.old self.new }
+        ensures { Runs (spec.with_parts_opened (spec.body_attributes around.entry)) result self.old
+            self.new }
     {
         if has_affixes(around.affixes) {
             self.open_part()?;
@@ -66,10 +67,12 @@ impl<'s, T> Context<'s, T> {
     /// empty.
     #[inline(never)]
     pub fn open_body(&mut self, around: BodyDressing<'_>) -> Result<OpenBody, RenderError>
-        ensures after { Runs (with_open_body (body_attributes around.entry)) result self.old
+        ensures after { Runs (spec.with_open_body (spec.body_attributes around.entry)) result
+            self.old
             self.new }
-        ensures before { IfOk result (λ before. before ≡ values_before self.old.inherited) }
-        ensures parts { IfOk result (λ _. HasOpenBody (body_attributes around.entry) self.new) }
+        ensures before { IfOk result (λ before. before ≡ spec.values_before self.old.inherited) }
+        ensures parts { IfOk result (λ _. spec.HasOpenBody (spec.body_attributes around.entry)
+            self.new) }
     {
         self.ensure_live()?;
         let before = self.values_before();
@@ -80,7 +83,7 @@ impl<'s, T> Context<'s, T> {
 
     /// The inherited values that a body changes.
     fn values_before(&self) -> OpenBody
-        ensures { result ≡ values_before self.now.inherited }
+        ensures { result ≡ spec.values_before self.now.inherited }
     {
         OpenBody {
             formatting: self.writing.formatting,
@@ -91,7 +94,7 @@ impl<'s, T> Context<'s, T> {
 
     /// Sets the inherited values in a body.
     fn enter_body(&mut self, around: BodyDressing<'_>)
-        ensures { self.new ≡ with_body_inherited (body_attributes around.entry) self.old }
+        ensures { self.new ≡ spec.with_body_inherited (spec.body_attributes around.entry) self.old }
     {
         self.writing.formatting = self.writing.formatting.apply(around.formatting);
         self.writing.in_quotes = parity_inside(around.quotes, self.writing.in_quotes);
@@ -100,7 +103,7 @@ impl<'s, T> Context<'s, T> {
 
     /// Restores the quotes and the stripping of periods around a body.
     fn leave_body(&mut self, before: OpenBody)
-        ensures { self.new ≡ around_body before self.old }
+        ensures { self.new ≡ spec.around_body before self.old }
     {
         self.writing.in_quotes = before.in_quotes;
         self.writing.strip_periods = before.strip_periods;
@@ -108,7 +111,7 @@ impl<'s, T> Context<'s, T> {
 
     /// Restores the formatting around a body.
     fn leave_formatting(&mut self, before: OpenBody)
-        ensures { self.new ≡ with_formatting before self.old }
+        ensures { self.new ≡ spec.with_formatting before self.old }
     {
         self.writing.formatting = before.formatting;
     }
@@ -118,10 +121,12 @@ impl<'s, T> Context<'s, T> {
     #[tactic(auto, unfolding(crate::specs::Context::with_quotes))]
     fn close_quotes_if(&mut self, around: BodyDressing<'_>) -> Result<bool, RenderError>
         requires live { self.old.failed ≡ false }
-        requires parts { HasOpenBody (body_attributes around) self.old }
-        ensures after { Runs (with_quotes_closed (body_attributes around.entry)) result self.old
+        requires parts { spec.HasOpenBody (spec.body_attributes around) self.old }
+        ensures after { Runs (spec.with_quotes_closed (spec.body_attributes around.entry)) result
+            self.old
             self.new }
-        ensures moved { IfOk result (λ moved. moved ≡ moved_in (body_attributes around.entry)
+        ensures moved { IfOk result (λ moved. moved
+            ≡ spec.moved_in (spec.body_attributes around.entry)
             self.old) }
     {
         if !around.quotes {
@@ -136,9 +141,10 @@ impl<'s, T> Context<'s, T> {
     /// Closes the part between the affixes, if there are any.
     fn close_affixes(&mut self, around: BodyDressing<'_>, moved: bool) -> Result<(), RenderError>
         requires live { self.old.failed ≡ false }
-        requires parts { OnTrue (has_affixes (affix_texts around.affixes.now))
+        requires parts { OnTrue (spec.has_affixes (affix_texts around.affixes.now))
             (0 < length self.old.outer) }
-        ensures { Runs (with_affixes_closed (body_attributes around.entry) moved) result self.old
+        ensures { Runs (spec.with_affixes_closed (spec.body_attributes around.entry) moved) result
+            self.old
             self.new }
     {
         if has_affixes(around.affixes) {
@@ -157,8 +163,9 @@ impl<'s, T> Context<'s, T> {
         around: BodyDressing<'_>,
         before: OpenBody,
     ) -> Result<(), RenderError>
-        requires parts { HasOpenBody (body_attributes around) self.old }
-        ensures { Runs (with_closed_body (body_attributes around.entry) before) result self.old
+        requires parts { spec.HasOpenBody (spec.body_attributes around) self.old }
+        ensures { Runs (spec.with_closed_body (spec.body_attributes around.entry) before) result
+            self.old
             self.new }
     {
         self.ensure_live()?;

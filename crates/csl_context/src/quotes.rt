@@ -5,7 +5,7 @@ ghost use Rattle.csl_elements.specs.Dressing.{affix_texts};
 ghost use Rattle.csl_tree.specs.Content.{◌++>◌, affixed_content};
 ghost use Rattle.csl_tree.specs.Flat.{affix_content};
 ghost use Rattle.csl_context.specs.Texts.{text_in_if, between_in};
-ghost use Rattle.csl_context.specs.Quotes.{opening_quote, closing_quote, quote_text, leading_punctuation, after_leading_punctuation, moved_punctuation, moves_punctuation, affixed_after};
+ghost use Rattle.csl_context.specs.Quotes as spec;
 ghost use Rattle.csl_context.specs.Context.{Runs, Gives, IsInnermost, with_part, close_part_by, with_quotes_toggled, with_quotes};
 
 use crate::context::Context;
@@ -17,7 +17,7 @@ use lit_model::Memory;
 
 /// The comma or period that a suffix begins with, if any.
 fn leading_punctuation(suffix: &str) -> Option<&'static str>
-    ensures { option_map (λ t. t.now) result ≡ leading_punctuation suffix.now }
+    ensures { option_map (λ t. t.now) result ≡ spec.leading_punctuation suffix.now }
 {
     if suffix.starts_with(',') {
         Some(",")
@@ -30,7 +30,7 @@ fn leading_punctuation(suffix: &str) -> Option<&'static str>
 
 /// The suffix without a leading comma or period.
 fn after_leading_punctuation(suffix: &str) -> &str
-    ensures { result.now ≡ after_leading_punctuation suffix.now }
+    ensures { result.now ≡ spec.after_leading_punctuation suffix.now }
 {
     if let Some(rest) = suffix.strip_prefix(',') {
         return rest;
@@ -43,7 +43,7 @@ fn after_leading_punctuation(suffix: &str) -> &str
 
 /// The term for the opening quote: the inner one inside an odd number of quotes.
 fn opening_quote(in_quotes: bool) -> OtherTerm
-    ensures { result ≡ opening_quote in_quotes }
+    ensures { result ≡ spec.opening_quote in_quotes }
 {
     if in_quotes {
         OtherTerm::OpenInnerQuote
@@ -54,7 +54,7 @@ fn opening_quote(in_quotes: bool) -> OtherTerm
 
 /// The term for the closing quote: the inner one inside an odd number of quotes.
 fn closing_quote(in_quotes: bool) -> OtherTerm
-    ensures { result ≡ closing_quote in_quotes }
+    ensures { result ≡ spec.closing_quote in_quotes }
 {
     if in_quotes {
         OtherTerm::CloseInnerQuote
@@ -82,7 +82,7 @@ impl<'s, T> Context<'s, T> {
         moved: bool,
     ) -> Result<(), RenderError>
         requires innermost { IsInnermost mark self.old }
-        ensures { Runs (close_part_by (λ inh c. affixed_after moved inh
+        ensures { Runs (close_part_by (λ inh c. spec.affixed_after moved inh
             (affix_texts affixes.now) c))
             result self.old self.new }
     {
@@ -115,7 +115,7 @@ impl<'s, T> Context<'s, T> {
     ) -> Result<(), RenderError>
         requires live { self.old.failed ≡ false }
         requires is_open { 0 < length self.old.outer }
-        ensures { Runs (close_part_by (λ inh c. affixed_after moved inh
+        ensures { Runs (close_part_by (λ inh c. spec.affixed_after moved inh
             (affix_texts affixes.now) c))
             result self.old self.new }
     {
@@ -177,7 +177,7 @@ impl<'s, T> Context<'s, T> {
 
     /// The text of a quote, if a locale has its term.
     fn quote_text(&self, term: OtherTerm) -> Option<&'s str>
-        ensures { option_map (λ t. t.now) result ≡ quote_text self.now.style term }
+        ensures { option_map (λ t. t.now) result ≡ spec.quote_text self.now.style term }
     {
         self.style.term(Term::Other(term), TermForm::Long, false)
     }
@@ -186,7 +186,7 @@ impl<'s, T> Context<'s, T> {
     /// first locale asks for it.
     fn moved_punctuation(&self, suffix: Option<&str>) -> Option<&'static str>
         ensures { option_map (λ t. t.now) result
-            ≡ moved_punctuation self.now.style (option_map (λ t. t.now) suffix.entry) }
+            ≡ spec.moved_punctuation self.now.style (option_map (λ t. t.now) suffix.entry) }
     {
         match suffix {
             Some(suffix) => {
@@ -203,7 +203,7 @@ impl<'s, T> Context<'s, T> {
     /// The opening quote in the inherited formatting, if a locale has its term.
     fn opening_affix(&self) -> Result<Option<Formatted>, Memory>
         ensures { IfOk result (λ t. affix_content t ≡ text_in_if self.now.inherited
-            (quote_text self.now.style (opening_quote self.now.inherited.in_quotes))) }
+            (spec.quote_text self.now.style (spec.opening_quote self.now.inherited.in_quotes))) }
     {
         let open = self.quote_text(opening_quote(self.in_quotes()));
         self.text_writer().affix(open)
@@ -212,9 +212,9 @@ impl<'s, T> Context<'s, T> {
     /// The closing quote, after the character that moves from the suffix.
     fn closing_affix(&self, suffix: Option<&str>) -> Result<Option<Formatted>, Memory>
         ensures { IfOk result (λ t. affix_content t ≡ text_in_if self.now.inherited
-            (moved_punctuation self.now.style (option_map (λ t. t.now) suffix.entry))
+            (spec.moved_punctuation self.now.style (option_map (λ t. t.now) suffix.entry))
             ++> text_in_if self.now.inherited
-            (quote_text self.now.style (closing_quote self.now.inherited.in_quotes))) }
+            (spec.quote_text self.now.style (spec.closing_quote self.now.inherited.in_quotes))) }
     {
         let front = self.moved_punctuation(suffix);
         let close = self.quote_text(closing_quote(self.in_quotes()));
@@ -229,11 +229,11 @@ impl<'s, T> Context<'s, T> {
         suffix: Option<&str>,
     ) -> Result<(Option<Formatted>, Option<Formatted>), Memory>
         ensures before { IfOk result (λ t. affix_content t.0 ≡ text_in_if self.now.inherited
-            (quote_text self.now.style (opening_quote self.now.inherited.in_quotes))) }
+            (spec.quote_text self.now.style (spec.opening_quote self.now.inherited.in_quotes))) }
         ensures after { IfOk result (λ t. affix_content t.1 ≡ text_in_if self.now.inherited
-            (moved_punctuation self.now.style (option_map (λ t. t.now) suffix.entry))
+            (spec.moved_punctuation self.now.style (option_map (λ t. t.now) suffix.entry))
             ++> text_in_if self.now.inherited
-            (quote_text self.now.style (closing_quote self.now.inherited.in_quotes))) }
+            (spec.quote_text self.now.style (spec.closing_quote self.now.inherited.in_quotes))) }
     {
         let before = self.opening_affix()?;
         let after = self.closing_affix(suffix)?;
@@ -243,7 +243,8 @@ impl<'s, T> Context<'s, T> {
     /// Whether a character moves from the suffix into the quotes. None moves if the innermost part
     /// is empty.
     pub(crate) fn moves_punctuation(&self, suffix: Option<&str>) -> bool
-        ensures { result ≡ moves_punctuation self.now.style (option_map (λ t. t.now) suffix.entry)
+        ensures { result
+            ≡ spec.moves_punctuation self.now.style (option_map (λ t. t.now) suffix.entry)
             self.now.inner }
     {
         self.moved_punctuation(suffix).is_some() && !self.writing.content.is_empty()
@@ -283,7 +284,7 @@ impl<'s, T> Context<'s, T> {
         ensures after { Runs (λ now.
             with_quotes (option_map (λ t. t.now) suffix.entry) (with_quotes_toggled now))
             result self.old self.new }
-        ensures moved { Gives result (moves_punctuation self.old.style
+        ensures moved { Gives result (spec.moves_punctuation self.old.style
             (option_map (λ t. t.now) suffix.entry) self.old.inner) }
     {
         self.ensure_live()?;

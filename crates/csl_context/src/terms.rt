@@ -6,7 +6,7 @@ ghost use Rattle.std.specs.Prelude.{◌≡◌, map, option_map};
 ghost use Rattle.csl_elements.specs.Lookup.{date_in_form};
 ghost use Rattle.csl_elements.specs.Locale.{ordinals_of};
 ghost use Rattle.csl_elements.specs.Ordinals.{ordinals, long_ordinals};
-ghost use Rattle.csl_context.specs.RenderInput.{term_in, gender_in, should_disambiguate};
+ghost use Rattle.csl_context.specs.RenderInput as spec;
 
 use crate::context::Context;
 use csl_entry::DisambiguateState;
@@ -16,14 +16,15 @@ use lit_model::GrammarGender;
 impl<'s, T> Context<'s, T> {
     /// The text of a term in the given form, or else in a form that it falls back to.
     pub fn term(&self, term: Term, form: TermForm, plural: bool) -> Option<&'s str>
-        ensures { option_map (λ text. text.now) result ≡ term_in self.now.style term form plural }
+        ensures { option_map (λ text. text.now) result
+            ≡ spec.term_in self.now.style term form plural }
     {
         self.style.term(term, form, plural)
     }
 
     /// The gender of a term, if it has one.
     pub fn gender(&self, term: Term) -> Option<GrammarGender>
-        ensures { result ≡ gender_in self.now.style term }
+        ensures { result ≡ spec.gender_in self.now.style term }
     {
         self.style.gender(term)
     }
@@ -47,7 +48,7 @@ impl<'s, T> Context<'s, T> {
 
     /// Whether the condition `disambiguate` of branches is true.
     pub fn should_disambiguate(&self) -> bool
-        ensures { result ≡ should_disambiguate self.now.cite.disambiguation }
+        ensures { result ≡ spec.should_disambiguate self.now.cite.disambiguation }
     {
         match &self.instance.cite_props.speculative.disambiguation {
             DisambiguateState::Choose => true,

@@ -4,7 +4,7 @@ ghost use Rattle.std.specs.Prelude.{◌≡◌, [], ◌∷◌, ◌++◌, string_b
 ghost use Rattle.csl_tree.specs.Content.{◌++>◌, markup_content, link_content};
 ghost use Rattle.csl_tree.specs.Flat.{with_tokens, affix_content};
 ghost use Rattle.csl_tree.specs.Tokens.{solid, transparent};
-ghost use Rattle.csl_context.specs.Texts.{without_periods, strip_if, optional_strip_if, formatted_text, optional_formatted_text};
+ghost use Rattle.csl_context.specs.Texts as spec;
 
 use csl_tree::{ElemChild, FlatTree, Formatted, Formatting};
 use lit_model::Memory;
@@ -12,7 +12,7 @@ use std::alloc::Global;
 
 /// The text without its periods.
 fn without_periods(alloc: Global, text: &str) -> Result<String, Memory>
-    ensures { IfOk result (λ s. string_bytes s ≡ without_periods text.now) }
+    ensures { IfOk result (λ s. string_bytes s ≡ spec.without_periods text.now) }
 {
     let kept = text.chars().filter(|c| *c != '.').collect(alloc)?;
     Ok(kept)
@@ -30,7 +30,8 @@ impl TextWriter {
     /// Writes a text into the innermost part.
     pub(crate) fn write(self, parts: &mut FlatTree, text: &str) -> Result<(), Memory>
         ensures ok { OnOk result (parts.new
-            ≡ with_tokens (formatted_text self.strip_periods self.formatting text.now) parts.old) }
+            ≡ with_tokens (spec.formatted_text self.strip_periods self.formatting text.now)
+            parts.old) }
         ensures err { OnErr result (parts.new ≡ parts.old) }
     {
         if self.strip_periods {
@@ -43,7 +44,7 @@ impl TextWriter {
 
     /// A copy of a text, without its periods if they are stripped.
     fn copy(self, text: &str) -> Result<String, Memory>
-        ensures { IfOk result (λ s. string_bytes s ≡ strip_if self.strip_periods text.now) }
+        ensures { IfOk result (λ s. string_bytes s ≡ spec.strip_if self.strip_periods text.now) }
     {
         if self.strip_periods {
             without_periods(self.alloc, text)
@@ -56,7 +57,7 @@ impl TextWriter {
     /// Appends `text`, if there is one, to `all`.
     fn add(self, all: &mut String, text: Option<&str>) -> Result<(), Memory>
         ensures { OnOk result (string_bytes all.new ≡ string_bytes all.old
-            ++ optional_strip_if self.strip_periods (option_map (λ t. t.now) text.entry)) }
+            ++ spec.optional_strip_if self.strip_periods (option_map (λ t. t.now) text.entry)) }
     {
         match text {
             Some(text) => {
@@ -71,7 +72,7 @@ impl TextWriter {
     /// The text of a prefix or a suffix as it is written, if there is one.
     pub(crate) fn affix(self, text: Option<&str>) -> Result<Option<Formatted>, Memory>
         ensures { IfOk result (λ t. affix_content t
-            ≡ optional_formatted_text self.strip_periods self.formatting
+            ≡ spec.optional_formatted_text self.strip_periods self.formatting
             (option_map (λ t. t.now) text.entry)) }
     {
         match text {
@@ -90,10 +91,10 @@ impl TextWriter {
         suffix: Option<&str>,
     ) -> Result<(Option<Formatted>, Option<Formatted>), Memory>
         ensures before { IfOk result (λ t. affix_content t.0
-            ≡ optional_formatted_text self.strip_periods self.formatting
+            ≡ spec.optional_formatted_text self.strip_periods self.formatting
             (option_map (λ t. t.now) prefix.entry)) }
         ensures after { IfOk result (λ t. affix_content t.1
-            ≡ optional_formatted_text self.strip_periods self.formatting
+            ≡ spec.optional_formatted_text self.strip_periods self.formatting
             (option_map (λ t. t.now) suffix.entry)) }
     {
         let before = self.affix(prefix)?;
@@ -108,9 +109,9 @@ impl TextWriter {
         second: Option<&str>,
     ) -> Result<Option<Formatted>, Memory>
         ensures { IfOk result (λ t. affix_content t
-            ≡ optional_formatted_text self.strip_periods self.formatting
+            ≡ spec.optional_formatted_text self.strip_periods self.formatting
             (option_map (λ t. t.now) first.entry)
-            ++> optional_formatted_text self.strip_periods self.formatting
+            ++> spec.optional_formatted_text self.strip_periods self.formatting
             (option_map (λ t. t.now) second.entry)) }
     {
         let mut text = String::new(self.alloc);

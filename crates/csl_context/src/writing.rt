@@ -7,7 +7,7 @@ ghost use Rattle.csl_tree.specs.Content.{elem_content, text_content, markup_cont
 ghost use Rattle.csl_tree.specs.Flat.{close_part};
 ghost use Rattle.csl_tree.specs.Tokens.{optional_meta, has_text, has_children, is_empty};
 ghost use Rattle.csl_context.specs.State.{with_node_formatting};
-ghost use Rattle.csl_context.specs.Texts.{text_in, wanted_space, chunk_in, chunks_in, link_in, transparent_in};
+ghost use Rattle.csl_context.specs.Texts as spec;
 ghost use Rattle.csl_context.specs.Context.{Runs, IsSilent, IsInnermost, same_context, with_content, with_space, with_space_in, with_part, close_part_by, no_content};
 
 use crate::context::Context;
@@ -120,7 +120,7 @@ impl<'s, T> Context<'s, T> {
 
     /// Writes a text in the inherited formatting (CSL 1.0.2, Formatting, Strip-periods).
     pub fn push_str(&mut self, text: &str) -> Result<(), RenderError>
-        ensures { Runs (with_content (λ inh. text_in inh text.now)) result self.old self.new }
+        ensures { Runs (with_content (λ inh. spec.text_in inh text.now)) result self.old self.new }
     {
         self.ensure_live()?;
         let pen = self.text_writer();
@@ -134,7 +134,8 @@ impl<'s, T> Context<'s, T> {
         text: &str,
         format: formatting::Formatting,
     ) -> Result<(), RenderError>
-        ensures { Runs (with_content (λ inh. text_in (with_node_formatting format inh) text.now))
+        ensures { Runs (with_content (λ inh. spec.text_in (with_node_formatting format inh)
+            text.now))
             result self.old self.new }
     {
         self.ensure_live()?;
@@ -179,7 +180,7 @@ impl<'s, T> Context<'s, T> {
 
     /// Writes a piece of a text. Mathematics becomes markup.
     fn push_chunk(&mut self, chunk: &StringChunk) -> Result<(), RenderError>
-        ensures { Runs (with_content (λ inh. chunk_in inh (chunk_of chunk.now)))
+        ensures { Runs (with_content (λ inh. spec.chunk_in inh (chunk_of chunk.now)))
             result self.old self.new }
     {
         match chunk.kind {
@@ -192,7 +193,7 @@ impl<'s, T> Context<'s, T> {
     /// Writes the pieces of a text: normal ones as [`Context::push_str`] does, verbatim ones with
     /// their periods, mathematics as markup.
     pub fn push_chunked(&mut self, text: &ChunkedString) -> Result<(), RenderError>
-        ensures { Runs (with_content (λ inh. chunks_in inh (chunks text.now)))
+        ensures { Runs (with_content (λ inh. spec.chunks_in inh (chunks text.now)))
             result self.old self.new }
     {
         self.ensure_live()?;
@@ -205,7 +206,7 @@ impl<'s, T> Context<'s, T> {
     /// Writes a link, unless its text is empty. The text is in the inherited formatting, and keeps
     /// its periods.
     pub fn push_link(&mut self, text: &str, url: &str) -> Result<(), RenderError>
-        ensures { Runs (with_content (λ inh. link_in inh text.now url.now))
+        ensures { Runs (with_content (λ inh. spec.link_in inh text.now url.now))
             result self.old self.new }
     {
         self.ensure_live()?;
@@ -217,7 +218,7 @@ impl<'s, T> Context<'s, T> {
     /// Writes a place in the inherited formatting. The caller fills it for the cite of index
     /// `cite_idx`.
     pub fn push_transparent(&mut self, cite_idx: usize) -> Result<(), RenderError>
-        ensures { Runs (with_content (λ inh. transparent_in inh cite_idx))
+        ensures { Runs (with_content (λ inh. spec.transparent_in inh cite_idx))
             result self.old self.new }
     {
         self.ensure_live()?;
@@ -244,7 +245,7 @@ impl<'s, T> Context<'s, T> {
 
     /// The text that [`Context::ensure_space`] writes: a space or nothing.
     fn wanted_space(&self) -> &'static str
-        ensures { result.now ≡ wanted_space self.now.inner }
+        ensures { result.now ≡ spec.wanted_space self.now.inner }
     {
         if self.writing.content.has_text() && !self.writing.content.ends_in_white_space() {
             " "

@@ -278,12 +278,12 @@ pub struct Choose {
 }
 
 impl Choose {
-    ghost use Rattle.csl_elements.specs.View.{branches};
+    ghost use Rattle.csl_elements.specs.View as spec;
 
     /// The `if` branch, then each `else-if` in order.
     pub fn branches(&self) -> Chain<Once<&ChooseBranch>, Iter<'_, ChooseBranch>>
         ensures { AlwaysYields (chain_steps once_steps iter_steps) (λ branch. branch.now) result
-            (branches self.now) }
+            (spec.branches self.now) }
     {
         once(&self.if_).chain(self.else_if.iter())
     }

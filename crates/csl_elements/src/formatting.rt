@@ -1,7 +1,7 @@
 //! How a style formats its text (CSL 1.0.2, Formatting) and where it places it (Display).
 
 ghost use Rattle.std.specs.Prelude.{◌≡◌};
-ghost use Rattle.csl_elements.specs.Constructors.{italic};
+ghost use Rattle.csl_elements.specs.Constructors as spec;
 ghost use Rattle.csl_elements.specs.Formatting.{apply_partial, IsBoth};
 
 /// Whether a text is upright or slanted.
@@ -73,7 +73,7 @@ pub struct Formatting {
 impl Formatting {
     /// Italics, and nothing else.
     pub fn italic() -> Formatting
-        ensures { result ≡ italic }
+        ensures { result ≡ spec.italic }
     {
         Formatting {
             font_style: Some(FontStyle::Italic),

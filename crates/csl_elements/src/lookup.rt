@@ -2,7 +2,7 @@
 //! forms in which a term is looked up (CSL 1.0.2, Terms).
 
 ghost use Rattle.std.specs.Prelude.{◌≡◌, find, option_copied};
-ghost use Rattle.csl_elements.specs.Term.{forms_for};
+ghost use Rattle.csl_elements.specs.Term as spec;
 ghost use Rattle.csl_elements.specs.Lookup.{is_in_form, date_in_form};
 
 use crate::date::{Date, DateForm};
@@ -23,7 +23,7 @@ static SYMBOL: [TermForm; 3] = [TermForm::Symbol, TermForm::Short, TermForm::Lon
 /// The forms in which a term is looked up, in order. If no locale has the term in one form, the
 /// next is tried.
 pub fn forms_for(form: TermForm) -> &'static [TermForm]
-    ensures { result.now ≡ forms_for form }
+    ensures { result.now ≡ spec.forms_for form }
 {
     match form {
         TermForm::Long => &LONG,

@@ -3,7 +3,7 @@
 
 ghost use Rattle.std.specs.Prelude.{◌≡◌, false, map, option_map};
 ghost use Rattle.csl_elements.specs.Names.{NamesNode, first_of, first_name, shorthand_expansion, view_name, view_et_al, view_part};
-ghost use Rattle.csl_elements.specs.Node.{ExpandedNode, names, is_childless, as_substitute_child, standing_in};
+ghost use Rattle.csl_elements.specs.Node as spec;
 ghost use Rattle.csl_elements.specs.View.{view_child, view_names, view_node, view_substitute, name_children, first_et_al, first_label, substitutes};
 ghost use Rattle.csl_elements.specs.NamesParts.{names_node, names_substitutes, first_substitute, parts_node, placed_label, default_name, first_part};
 
@@ -44,9 +44,9 @@ impl LayoutRenderingElement {
     /// The node, if it is a `cs:names` without children. Directly in a substitute, such names are
     /// rendered in the place of the names around it (CSL 1.0.2, Substitute).
     pub fn childless_names(&self) -> Option<&Names>
-        ensures { (original : NamesNode) → (f : ExpandedNode)
-            → as_substitute_child original (view_node self.now) f
-            ≡ standing_in original f (option_map (λ n. names_node n.now) result) }
+        ensures { (original : NamesNode) → (f : spec.ExpandedNode)
+            → spec.as_substitute_child original (view_node self.now) f
+            ≡ spec.standing_in original f (option_map (λ n. names_node n.now) result) }
     {
         match self {
             LayoutRenderingElement::Names(names) => names.if_childless(),
@@ -64,7 +64,7 @@ impl Names {
     /// The parts of the names node itself.
     pub fn parts(&self) -> NamesParts<'_>
         ensures value { parts_node result ≡ names_node self.now }
-        ensures view { view_names self.now ≡ names (names_node self.now)
+        ensures view { view_names self.now ≡ spec.names (names_node self.now)
             (names_substitutes self.now) }
     {
         NamesParts {
@@ -83,7 +83,7 @@ impl Names {
     /// al. and label from the names around it.
     #[tactic(auto, using(crate::proofs::NamesChildren::childless))]
     pub fn is_childless(&self) -> bool
-        ensures { result ≡ is_childless (names_node self.now) (names_substitutes self.now) }
+        ensures { result ≡ spec.is_childless (names_node self.now) (names_substitutes self.now) }
     {
         self.children.is_empty()
     }
@@ -91,9 +91,9 @@ impl Names {
     /// The node itself, if it has no children.
     #[tactic(auto, using(crate::proofs::Rolled::names_view))]
     fn if_childless(&self) -> Option<&Names>
-        ensures { (original : NamesNode) → (f : ExpandedNode)
-            → as_substitute_child original (view_names self.now) f
-            ≡ standing_in original f (option_map (λ n. names_node n.now) result) }
+        ensures { (original : NamesNode) → (f : spec.ExpandedNode)
+            → spec.as_substitute_child original (view_names self.now) f
+            ≡ spec.standing_in original f (option_map (λ n. names_node n.now) result) }
     {
         if self.is_childless() {
             Some(self)

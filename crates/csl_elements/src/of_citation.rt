@@ -2,7 +2,7 @@
 //! Definitions: specs/Taxonomy.antt.
 
 ghost use Rattle.std.specs.Prelude.{◌≡◌};
-ghost use Rattle.csl_elements.specs.Taxonomy.{is_of_citation};
+ghost use Rattle.csl_elements.specs.Taxonomy as spec;
 
 use crate::taxonomy::{NumberVariable, StandardVariable, Variable};
 
@@ -10,7 +10,7 @@ impl Variable {
     /// Whether the citation answers the variable, and not the entry. It answers four: the citation
     /// number, the number of the note that first cites the entry, the locator and the year suffix.
     pub fn is_of_citation(self) -> bool
-        ensures { result ≡ is_of_citation self }
+        ensures { result ≡ spec.is_of_citation self }
     {
         matches!(
             self,

@@ -4,7 +4,7 @@ ghost use Rattle.std.specs.Prelude.{◌≡◌, ◌<◌, ◌↔◌, ◌||◌, tru
 ghost use Rattle.std.specs.BTreeSet.{contains};
 ghost use Rattle.csl_elements.specs.declared.taxonomy.Variable.{Variable};
 ghost use Rattle.csl_elements.specs.contracts.taxonomy.VariableOrd.TheImpl.{cmp-value as cmp_variable};
-ghost use Rattle.csl_elements.specs.VariableSet.{place, has, AreAlikeOn, no_variables, with_variable, with_held, members_of};
+ghost use Rattle.csl_elements.specs.VariableSet as spec;
 
 use crate::taxonomy::Variable;
 use crate::taxonomy::all_variables::VARIABLES;
@@ -23,7 +23,7 @@ pub struct VariableSet {
 
 /// The place of a variable.
 fn place(variable: Variable) -> u32
-    ensures value { result ≡ place variable }
+    ensures value { result ≡ spec.place variable }
     ensures bound { result < 98 }
 {
     match variable {
@@ -38,21 +38,21 @@ fn place(variable: Variable) -> u32
 impl VariableSet {
     /// The set without variables.
     pub fn new() -> VariableSet
-        ensures { (v : Variable) → has result v ≡ false }
+        ensures { (v : Variable) → spec.has result v ≡ false }
     {
         VariableSet { places: 0 }
     }
 
     /// The set of all variables.
     pub fn all() -> VariableSet
-        ensures { (v : Variable) → has result v ≡ true }
+        ensures { (v : Variable) → spec.has result v ≡ true }
     {
         VariableSet { places: u128::MAX }
     }
 
     /// The variables of an ordered set.
     pub fn of(variables: &BTreeSet<Variable>) -> VariableSet
-        ensures { (v : Variable) → has result v ≡ contains cmp_variable.it variables.now v }
+        ensures { (v : Variable) → spec.has result v ≡ contains cmp_variable.it variables.now v }
     {
         let mut set = VariableSet::new();
         for variable in variables {
@@ -63,7 +63,7 @@ impl VariableSet {
 
     /// The set with one more variable.
     pub fn with(self, variable: Variable) -> VariableSet
-        ensures { has result ≡ with_variable variable (has self) }
+        ensures { spec.has result ≡ spec.with_variable variable (spec.has self) }
     {
         VariableSet {
             places: self.places | 1 << place(variable),
@@ -72,7 +72,7 @@ impl VariableSet {
 
     /// The variables of both sets.
     pub fn union(self, other: VariableSet) -> VariableSet
-        ensures { (v : Variable) → has result v ≡ (has self v || has other v) }
+        ensures { (v : Variable) → spec.has result v ≡ (spec.has self v || spec.has other v) }
     {
         VariableSet {
             places: self.places | other.places,
@@ -81,21 +81,21 @@ impl VariableSet {
 
     /// Whether the set has the variable.
     pub fn contains(self, variable: Variable) -> bool
-        ensures { result ≡ has self variable }
+        ensures { result ≡ spec.has self variable }
     {
         self.places >> place(variable) & 1 == 1
     }
 
     /// Whether the set and the other have the same of the variables that were read.
     pub fn is_alike_on(self, read: VariableSet, other: VariableSet) -> bool
-        ensures { IsTrue result ↔ AreAlikeOn read self other }
+        ensures { IsTrue result ↔ spec.AreAlikeOn read self other }
     {
         (self.places ^ other.places) & read.places & PLACES == 0
     }
 
     /// Whether the set has no variable.
     pub fn is_empty(self) -> bool
-        ensures { IsTrue result ↔ (has self ≡ no_variables) }
+        ensures { IsTrue result ↔ (spec.has self ≡ spec.no_variables) }
     {
         self.is_alike_on(VariableSet::all(), VariableSet::new())
     }
@@ -103,8 +103,9 @@ impl VariableSet {
     /// Adds the variable to an ordered set, if this set has it.
     #[tactic(auto, using(crate::proofs::OrderedSets::added))]
     fn insert_into(self, variable: Variable, ordered: &mut BTreeSet<Variable>) -> Result<(), Memory>
-        ensures { OnOk result (members_of ordered.new ≡ (if has self variable
-            then with_variable variable (members_of ordered.old) else members_of ordered.old)) }
+        ensures { OnOk result (spec.members_of ordered.new ≡ (if spec.has self variable
+            then spec.with_variable variable (spec.members_of ordered.old) else spec.members_of
+            ordered.old)) }
     {
         if !self.contains(variable) {
             return Ok(());
@@ -120,8 +121,8 @@ impl VariableSet {
         variables: &[Variable],
         ordered: &mut BTreeSet<Variable>,
     ) -> Result<(), Memory>
-        ensures { OnOk result (members_of ordered.new
-            ≡ with_held (has self) variables.now (members_of ordered.old)) }
+        ensures { OnOk result (spec.members_of ordered.new
+            ≡ spec.with_held (spec.has self) variables.now (spec.members_of ordered.old)) }
     {
         for variable in variables {
             self.insert_into(*variable, ordered)?;
@@ -134,7 +135,7 @@ impl VariableSet {
     /// # Errors
     /// [`Memory`]: out of memory.
     pub fn to_ordered(self, alloc: Global) -> Result<BTreeSet<Variable>, Memory>
-        ensures { IfOk result (λ ordered. members_of ordered ≡ has self) }
+        ensures { IfOk result (λ ordered. spec.members_of ordered ≡ spec.has self) }
     {
         let mut ordered = BTreeSet::new(alloc);
         if self.is_empty() {

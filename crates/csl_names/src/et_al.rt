@@ -7,7 +7,7 @@ ghost use Rattle.std.specs.Cow.{cow_value};
 ghost use Rattle.lit_model.specs.Person.{person_view};
 ghost use Rattle.csl_context.specs.Context.{Runs};
 ghost use Rattle.csl_names.specs.Piece.{with_pieces};
-ghost use Rattle.csl_names.specs.List.{is_all, et_al_pieces, last_form, kept_last, cut_end};
+ghost use Rattle.csl_names.specs.List as spec;
 ghost use Rattle.csl_names.specs.ListStyles.{list_style_view};
 
 use crate::join::delimiter_precedes;
@@ -21,7 +21,7 @@ use std::borrow::Cow;
 
 /// Whether every name begins with the family name.
 fn is_all(order: Option<NameAsSortOrder>) -> bool
-    ensures { result ≡ is_all order }
+    ensures { result ≡ spec.is_all order }
 {
     match order {
         None => false,
@@ -39,7 +39,7 @@ impl ListStyle<'_> {
         names: usize,
         shown: usize,
     ) -> Result<(), RenderError>
-        ensures { Runs (with_pieces (et_al_pieces (list_style_view self.now) names shown
+        ensures { Runs (with_pieces (spec.et_al_pieces (list_style_view self.now) names shown
             (list_style_view self.now).et_al)) result ctx.old ctx.new }
     {
         match self
@@ -59,7 +59,7 @@ impl ListStyle<'_> {
 
     /// The last form, if the list keeps its last name.
     fn last_form(&self, forms: &[Option<DisambiguatedNameForm>]) -> Option<DisambiguatedNameForm>
-        ensures { result ≡ last_form (list_style_view self.now) forms.now }
+        ensures { result ≡ spec.last_form (list_style_view self.now) forms.now }
     {
         if self.use_last && !forms.is_empty() {
             form_at(forms, forms.len() - 1)
@@ -75,7 +75,7 @@ impl ListStyle<'_> {
         persons: &[Cow<'_, Person>],
         form: DisambiguatedNameForm,
     ) -> Result<(), RenderError>
-        ensures { Runs (λ now. with_pieces (kept_last now.inherited
+        ensures { Runs (λ now. with_pieces (spec.kept_last now.inherited
             (list_style_view self.now) (map (λ p. person_view (cow_value p)) persons.now) form
             (slice_get (map (λ p. person_view (cow_value p)) persons.now) (length
             (map (λ p. person_view (cow_value p)) persons.now) - 1))) now) result ctx.old ctx.new }
@@ -100,10 +100,10 @@ impl ListStyle<'_> {
         forms: &[Option<DisambiguatedNameForm>],
         persons: &[Cow<'_, Person>],
     ) -> Result<(), RenderError>
-        ensures { Runs (λ now. with_pieces (cut_end now.inherited
+        ensures { Runs (λ now. with_pieces (spec.cut_end now.inherited
             (list_style_view self.now) names forms.now
             (map (λ p. person_view (cow_value p)) persons.now)
-            (last_form (list_style_view self.now) forms.now)) now) result ctx.old ctx.new }
+            (spec.last_form (list_style_view self.now) forms.now)) now) result ctx.old ctx.new }
     {
         match self.last_form(forms) {
             Some(form) => self.push_kept_last(ctx, persons, form),

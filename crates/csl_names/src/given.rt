@@ -6,7 +6,7 @@ ghost use Rattle.lit_model.specs.Initials.{initials};
 ghost use Rattle.lit_model.specs.Person.{person_view};
 ghost use Rattle.csl_context.specs.Context.{Runs, GivesBy};
 ghost use Rattle.csl_names.specs.Piece.{word, with_pieces};
-ghost use Rattle.csl_names.specs.Name.{name_style_view, given_or_empty, lettered_name, initialized_given, given_word, given_block};
+ghost use Rattle.csl_names.specs.Name as spec;
 
 use crate::name::NameStyle;
 use crate::piece::{push_after_gap, push_optional, push_word};
@@ -18,7 +18,7 @@ use std::alloc::Global;
 /// The initials of a person's given name.
 fn initials_of(alloc: Global, person: &Person, text: &str, hyphen: bool) -> Result<String, Memory>
     ensures { GivesBy string_bytes result
-        (initials text.now hyphen (given_or_empty (person_view person.now))) }
+        (initials text.now hyphen (spec.given_or_empty (person_view person.now))) }
 {
     let mut short = String::new(alloc);
     match person.initials(&mut short, Some(text), hyphen) {
@@ -31,7 +31,7 @@ fn initials_of(alloc: Global, person: &Person, text: &str, hyphen: bool) -> Resu
 /// letter and `text`.
 fn lettered_name(alloc: Global, person: &Person, text: &str) -> Result<String, Memory>
     ensures { GivesBy string_bytes result
-        (lettered_name text.now (given_or_empty (person_view person.now))) }
+        (spec.lettered_name text.now (spec.given_or_empty (person_view person.now))) }
 {
     let mut short = String::new(alloc);
     match person.first_name_with_delimiter(&mut short, Some(text)) {
@@ -50,7 +50,7 @@ fn shorten(
     hyphen: bool,
 ) -> Result<String, Memory>
     ensures { GivesBy string_bytes result
-        (initialized_given text.now hyphen form (given_or_empty (person_view person.now))) }
+        (spec.initialized_given text.now hyphen form (spec.given_or_empty (person_view person.now))) }
 {
     match form {
         DisambiguatedNameForm::LongInitialized => initials_of(alloc, person, text, hyphen),
@@ -69,7 +69,7 @@ impl NameStyle<'_> {
         person: &Person,
         form: DisambiguatedNameForm,
     ) -> Result<(), RenderError>
-        ensures { Runs (with_pieces (given_word (name_style_view self.now) form
+        ensures { Runs (with_pieces (spec.given_word (spec.name_style_view self.now) form
             (person_view person.now)))
             result ctx.old ctx.new }
     {
@@ -90,9 +90,10 @@ impl NameStyle<'_> {
         form: DisambiguatedNameForm,
         text: &str,
     ) -> Result<(), RenderError>
-        ensures { Runs (with_pieces (word (initialized_given text.now
-            (name_style_view self.now).hyphen form (given_or_empty (person_view person.now)))
-            (name_style_view self.now).given.formatting ∷ [])) result ctx.old ctx.new }
+        ensures { Runs (with_pieces (word (spec.initialized_given text.now
+            (spec.name_style_view self.now).hyphen form (spec.given_or_empty (person_view
+            person.now)))
+            (spec.name_style_view self.now).given.formatting ∷ [])) result ctx.old ctx.new }
     {
         let short = shorten(ctx.alloc(), person, form, text, self.hyphen);
         let short = ctx.attempt(short)?;
@@ -107,7 +108,7 @@ impl NameStyle<'_> {
         person: &Person,
         form: DisambiguatedNameForm,
     ) -> Result<(), RenderError>
-        ensures { Runs (with_pieces (given_block (name_style_view self.now) form
+        ensures { Runs (with_pieces (spec.given_block (spec.name_style_view self.now) form
             (person_view person.now)))
             result ctx.old ctx.new }
     {

@@ -6,7 +6,7 @@ ghost use Rattle.std.specs.Prelude.{◌≡◌, ◌<◌, option_map};
 ghost use Rattle.csl_context.specs.Context.{Runs};
 ghost use Rattle.csl_names.specs.Piece.{with_pieces};
 ghost use Rattle.csl_names.specs.List.{delimiter_precedes, last_name_separator, name_separator};
-ghost use Rattle.csl_names.specs.ListStyles.{and_word, list_style_view};
+ghost use Rattle.csl_names.specs.ListStyles as spec;
 
 use crate::list::{ListStyle, is_reversed};
 use crate::piece::{no_formatting, push_gap, push_word};
@@ -32,7 +32,7 @@ pub(crate) fn delimiter_precedes(
 
 /// The word before the last name, if there is an `and`. It is empty if the style lacks the term.
 fn and_word(style: &Style, and: Option<NameAnd>) -> Option<&str>
-    ensures { option_map (λ t. t.now) result ≡ and_word style.now and }
+    ensures { option_map (λ t. t.now) result ≡ spec.and_word style.now and }
 {
     match and {
         None => None,
@@ -50,8 +50,8 @@ impl ListStyle<'_> {
     /// Writes the separator before the last name, which is at `place`: the delimiter or a space,
     /// the word and a gap; or the delimiter alone if there is no word.
     fn push_last_join<T>(&self, ctx: &mut Context<'_, T>, place: usize) -> Result<(), RenderError>
-        ensures { Runs (with_pieces (last_name_separator (list_style_view self.now) place
-            (list_style_view self.now).and_word)) result ctx.old ctx.new }
+        ensures { Runs (with_pieces (last_name_separator (spec.list_style_view self.now) place
+            (spec.list_style_view self.now).and_word)) result ctx.old ctx.new }
     {
         match and_word(self.style, self.and) {
             None => push_word(ctx, self.delimiter, no_formatting()),
@@ -77,7 +77,7 @@ impl ListStyle<'_> {
         place: usize,
     ) -> Result<(), RenderError>
         requires { place < usize.MAX }
-        ensures { Runs (with_pieces (name_separator (list_style_view self.now) ends place))
+        ensures { Runs (with_pieces (name_separator (spec.list_style_view self.now) ends place))
             result ctx.old ctx.new }
     {
         if place == 0 {

@@ -6,7 +6,7 @@ ghost use Rattle.std.specs.Cow.{cow_value};
 ghost use Rattle.lit_model.specs.Person.{person_view};
 ghost use Rattle.csl_context.specs.Context.{Runs};
 ghost use Rattle.csl_names.specs.Piece.{with_pieces};
-ghost use Rattle.csl_names.specs.List.{form_at, first_absent, is_reversed, names_from, with_whole, with_names};
+ghost use Rattle.csl_names.specs.List as spec;
 ghost use Rattle.csl_names.specs.ListStyles.{list_style_view};
 
 use crate::name::NameStyle;
@@ -48,7 +48,7 @@ pub(crate) fn form_at(
     forms: &[Option<DisambiguatedNameForm>],
     place: usize,
 ) -> Option<DisambiguatedNameForm>
-    ensures { result ≡ form_at forms.now place }
+    ensures { result ≡ spec.form_at forms.now place }
 {
     match forms.get(place) {
         Some(form) => *form,
@@ -58,14 +58,14 @@ pub(crate) fn form_at(
 
 /// The place of the first absent form, if any.
 fn first_absent(forms: &[Option<DisambiguatedNameForm>]) -> Option<usize>
-    ensures { result ≡ first_absent forms.now }
+    ensures { result ≡ spec.first_absent forms.now }
 {
     forms.iter().position(|form| form.is_none())
 }
 
 /// Whether the name at a place begins with the family name.
 pub(crate) fn is_reversed(order: Option<NameAsSortOrder>, place: usize) -> bool
-    ensures { result ≡ is_reversed order place }
+    ensures { result ≡ spec.is_reversed order place }
 {
     match order {
         None => false,
@@ -84,7 +84,7 @@ impl ListStyle<'_> {
         reversed: bool,
         place: usize,
     ) -> Result<(), RenderError>
-        ensures { Runs (with_whole (list_style_view self.now) form reversed place
+        ensures { Runs (spec.with_whole (list_style_view self.now) form reversed place
             (person_view person.now))
             result ctx.old ctx.new }
     {
@@ -103,7 +103,7 @@ impl ListStyle<'_> {
         forms: &[Option<DisambiguatedNameForm>],
         persons: &[Cow<'_, Person>],
     ) -> Result<(), RenderError>
-        ensures { Runs (λ now. with_pieces (names_from now.inherited
+        ensures { Runs (λ now. with_pieces (spec.names_from now.inherited
             (list_style_view self.now) ends
             forms.now 0 (map (λ p. person_view (cow_value p)) persons.now)) now) result ctx.old
             ctx.new }
@@ -132,7 +132,7 @@ impl ListStyle<'_> {
         persons: &[Cow<'_, Person>],
         forms: &[Option<DisambiguatedNameForm>],
     ) -> Result<(), RenderError>
-        ensures { Runs (with_names (list_style_view self.now)
+        ensures { Runs (spec.with_names (list_style_view self.now)
             (map (λ p. person_view (cow_value p)) persons.now) forms.now) result ctx.old ctx.new }
     {
         match first_absent(forms) {

@@ -4,7 +4,7 @@ ghost use Rattle.std.specs.Prelude.{◌≡◌, option_map};
 ghost use Rattle.lit_model.specs.Person.{person_view};
 ghost use Rattle.csl_context.specs.Context.{Runs};
 ghost use Rattle.csl_names.specs.Piece.{with_pieces};
-ghost use Rattle.csl_names.specs.Name.{name_style_view, leading_name, demoted_particle, given_after_family, family_first, suffix_after_name, given_first, cjk_name, institution, long_name, one_name};
+ghost use Rattle.csl_names.specs.Name as spec;
 
 use crate::part::{PartStyle, push_separated};
 use crate::piece::{no_formatting, push_after_gap, push_gap, push_optional, push_word};
@@ -33,7 +33,7 @@ impl NameStyle<'_> {
     /// The demoted particle, if there is one.
     fn demoted_particle<'p>(&self, person: &'p Person) -> Option<&'p str>
         ensures { option_map (λ t. t.now) result
-            ≡ demoted_particle (name_style_view self.now) (person_view person.now) }
+            ≡ spec.demoted_particle (spec.name_style_view self.now) (person_view person.now) }
     {
         if self.demotes {
             person.name_particle()
@@ -44,7 +44,8 @@ impl NameStyle<'_> {
 
     /// The family name that comes first, without a demoted particle.
     fn leading_name<'p>(&self, person: &'p Person) -> &'p str
-        ensures { result.now ≡ leading_name (name_style_view self.now) (person_view person.now) }
+        ensures { result.now
+            ≡ spec.leading_name (spec.name_style_view self.now) (person_view person.now) }
     {
         if self.demotes {
             person.name_without_particle()
@@ -61,7 +62,7 @@ impl NameStyle<'_> {
         person: &Person,
         form: DisambiguatedNameForm,
     ) -> Result<(), RenderError>
-        ensures { Runs (with_pieces (given_after_family (name_style_view self.now) form
+        ensures { Runs (with_pieces (spec.given_after_family (spec.name_style_view self.now) form
             (person_view person.now) (person_view person.now).given_name)) result ctx.old ctx.new }
     {
         match &person.given_name {
@@ -83,7 +84,7 @@ impl NameStyle<'_> {
         person: &Person,
         form: DisambiguatedNameForm,
     ) -> Result<(), RenderError>
-        ensures { Runs (with_pieces (family_first (name_style_view self.now) form
+        ensures { Runs (with_pieces (spec.family_first (spec.name_style_view self.now) form
             (person_view person.now)))
             result ctx.old ctx.new }
     {
@@ -99,7 +100,7 @@ impl NameStyle<'_> {
         ctx: &mut Context<'_, T>,
         person: &Person,
     ) -> Result<(), RenderError>
-        ensures { Runs (with_pieces (suffix_after_name (name_style_view self.now)
+        ensures { Runs (with_pieces (spec.suffix_after_name (spec.name_style_view self.now)
             (person_view person.now).comma_suffix (person_view person.now).suffix)) result ctx.old
             ctx.new }
     {
@@ -123,7 +124,7 @@ impl NameStyle<'_> {
         person: &Person,
         form: DisambiguatedNameForm,
     ) -> Result<(), RenderError>
-        ensures { Runs (with_pieces (given_first (name_style_view self.now) form
+        ensures { Runs (with_pieces (spec.given_first (spec.name_style_view self.now) form
             (person_view person.now)))
             result ctx.old ctx.new }
     {
@@ -138,7 +139,7 @@ impl NameStyle<'_> {
 
     /// Writes a name in a Chinese, Japanese or Korean script, with no gap between its parts.
     fn push_cjk<T>(&self, ctx: &mut Context<'_, T>, person: &Person) -> Result<(), RenderError>
-        ensures { Runs (with_pieces (cjk_name (name_style_view self.now)
+        ensures { Runs (with_pieces (spec.cjk_name (spec.name_style_view self.now)
             (person_view person.now)))
             result ctx.old ctx.new }
     {
@@ -155,7 +156,7 @@ impl NameStyle<'_> {
         ctx: &mut Context<'_, T>,
         person: &Person,
     ) -> Result<(), RenderError>
-        ensures { Runs (with_pieces (institution (name_style_view self.now)
+        ensures { Runs (with_pieces (spec.institution (spec.name_style_view self.now)
             (person_view person.now)))
             result ctx.old ctx.new }
     {
@@ -173,7 +174,7 @@ impl NameStyle<'_> {
         form: DisambiguatedNameForm,
         reversed: bool,
     ) -> Result<(), RenderError>
-        ensures { Runs (with_pieces (long_name (name_style_view self.now) form reversed
+        ensures { Runs (with_pieces (spec.long_name (spec.name_style_view self.now) form reversed
             (person_view person.now))) result ctx.old ctx.new }
     {
         if person.is_cjk() {
@@ -193,7 +194,7 @@ impl NameStyle<'_> {
         form: DisambiguatedNameForm,
         reversed: bool,
     ) -> Result<(), RenderError>
-        ensures { Runs (with_pieces (one_name (name_style_view self.now) form reversed
+        ensures { Runs (with_pieces (spec.one_name (spec.name_style_view self.now) form reversed
             (person_view person.now))) result ctx.old ctx.new }
     {
         if person.is_institutional() {

@@ -7,7 +7,7 @@ ghost use Rattle.csl_elements.specs.Names.{view_name};
 ghost use Rattle.csl_elements.specs.NamesOptions.{complete_options};
 ghost use Rattle.csl_context.specs.Context.{Runs};
 ghost use Rattle.csl_names.specs.Name.{part_style_view, name_style_view};
-ghost use Rattle.csl_names.specs.NameStyles.{part_in, demotes, name_style_in, with_one_name};
+ghost use Rattle.csl_names.specs.NameStyles as spec;
 
 use crate::name::NameStyle;
 use crate::part::PartStyle;
@@ -19,7 +19,7 @@ use lit_model::Person;
 
 /// The formatting and the affixes of a part of a name.
 fn part_in(name: &Name, which: NamePartName) -> PartStyle<'_>
-    ensures { part_style_view result ≡ part_in which (view_name name.now) }
+    ensures { part_style_view result ≡ spec.part_in which (view_name name.now) }
 {
     match name.part(which) {
         Some(part) => PartStyle {
@@ -37,7 +37,7 @@ fn part_in(name: &Name, which: NamePartName) -> PartStyle<'_>
 
 /// Whether a particle is demoted, by the style's setting.
 fn demotes(setting: DemoteNonDroppingParticle, sorting: bool) -> bool
-    ensures { result ≡ demotes setting sorting }
+    ensures { result ≡ spec.demotes setting sorting }
 {
     match setting {
         DemoteNonDroppingParticle::DisplayAndSort => true,
@@ -53,7 +53,7 @@ pub(crate) fn name_style<'n, T>(
     options: &NameOptions<'n>,
 ) -> NameStyle<'n>
     ensures { name_style_view result
-        ≡ name_style_in ctx.now (view_name name.now) (complete_options options.now) }
+        ≡ spec.name_style_in ctx.now (view_name name.now) (complete_options options.now) }
 {
     let settings = ctx.style().settings();
     let sorting = ctx.sorting().is_some();
@@ -78,7 +78,7 @@ pub fn write_name<T>(
     form: DisambiguatedNameForm,
     reversed: bool,
 ) -> Result<(), RenderError>
-    ensures { Runs (with_one_name (view_name name.now)
+    ensures { Runs (spec.with_one_name (view_name name.now)
         (complete_options options.entry) form reversed (person_view person.now)) result ctx.old
         ctx.new }
 {

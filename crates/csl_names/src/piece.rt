@@ -1,7 +1,7 @@
 //! Texts and gaps, written from the left.
 
 ghost use Rattle.std.specs.Prelude.{◌≡◌, ◌∷◌, [], option_map};
-ghost use Rattle.csl_elements.specs.NamesParts.{no_formatting};
+ghost use Rattle.csl_elements.specs.NamesParts as spec;
 ghost use Rattle.csl_context.specs.Context.{Runs};
 ghost use Rattle.csl_names.specs.Piece.{word, gap, with_pieces, optional_word, spaced_word};
 
@@ -10,7 +10,7 @@ use csl_style::Formatting;
 
 /// The formatting that sets nothing.
 pub(crate) fn no_formatting() -> Formatting
-    ensures { result ≡ no_formatting }
+    ensures { result ≡ spec.no_formatting }
 {
     Formatting::default()
 }

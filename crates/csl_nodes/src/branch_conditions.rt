@@ -5,7 +5,8 @@ ghost use Rattle.std.specs.Iterator.{YieldsFirst, item_count};
 ghost use Rattle.csl_elements.specs.View.{view_branch};
 ghost use Rattle.csl_context.specs.Context.{render_input};
 ghost use Rattle.csl_nodes.specs.Condition.{all_if, conditions_at, conditions};
-ghost use Rattle.csl_nodes.specs.BranchConditions.{next_arm, arms_from, remaining_conditions, context_of, tests_of, ReadsAt, ReadsNext};
+ghost use Rattle.csl_nodes.specs.BranchConditions as spec;
+ghost use Rattle.csl_nodes.specs.BranchConditions.{arms_from, remaining_conditions, ReadsNext};
 
 use crate::condition::{
     is_disambiguated, is_located, is_numeric, is_of_kind, is_positioned, is_present, is_uncertain,
@@ -30,7 +31,7 @@ pub enum BranchConditionPos {
 impl BranchConditionPos {
     /// The sort of tests after this one.
     fn next_arm(self) -> Option<BranchConditionPos>
-        ensures { result ≡ next_arm self }
+        ensures { result ≡ spec.next_arm self }
     {
         match self {
             BranchConditionPos::Disambiguate => Some(BranchConditionPos::IsNumeric),
@@ -88,7 +89,7 @@ impl<'a, 's, T: EntryLike> BranchConditionIter<'a, 's, T> {
         ensures left { remaining_conditions T.answers result
             ≡ conditions (render_input T.answers ctx.now) ctx.now.state
             (view_branch branch.now).tests }
-        ensures context { context_of result ≡ ctx.now }
+        ensures context { spec.context_of result ≡ ctx.now }
     {
         BranchConditionIter {
             branch,
@@ -101,9 +102,9 @@ impl<'a, 's, T: EntryLike> BranchConditionIter<'a, 's, T> {
 
     /// Evaluates the test at the current place, if there is one.
     fn read(&self) -> Option<Result<bool, RenderError>>
-        ensures { ReadsAt self.now.ctx.now (slice_get (conditions_at
+        ensures { spec.ReadsAt self.now.ctx.now (slice_get (conditions_at
             (render_input T.answers self.now.ctx.now) self.now.ctx.now.state
-            (tests_of self.now.branch.now) self.now.pos) self.now.index) result }
+            (spec.tests_of self.now.branch.now) self.now.pos) self.now.index) result }
     {
         let branch = self.branch;
         match self.pos {

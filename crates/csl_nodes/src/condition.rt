@@ -3,7 +3,7 @@
 ghost use Rattle.std.specs.Prelude.{◌≡◌, false, IfOk, OnOk, IfErr};
 ghost use Rattle.lit_model.specs.Text.{chunks};
 ghost use Rattle.csl_context.specs.Context.{FailsSilently, render_input};
-ghost use Rattle.csl_nodes.specs.Condition.{is_number, is_numeric, is_uncertain, is_located, is_ibid, is_ibid_with_locator, is_positioned, is_of_kind, is_present, is_disambiguated};
+ghost use Rattle.csl_nodes.specs.Condition as spec;
 
 use csl_context::{Context, RenderError};
 use csl_entry::{EntryLike, IbidState, NumberVariableResult, as_deref};
@@ -13,7 +13,7 @@ use std::alloc::Global;
 
 /// Whether a text spells a number.
 fn is_number(alloc: Global, text: &ChunkedString) -> Result<bool, Memory>
-    ensures { IfOk result (λ holds. holds ≡ is_number (chunks text.now)) }
+    ensures { IfOk result (λ holds. holds ≡ spec.is_number (chunks text.now)) }
 {
     let text = text.to_text(alloc)?;
     Ok(Numeric::is_spelled_by(text.as_str()))
@@ -25,7 +25,7 @@ pub(crate) fn is_numeric<'s, T: EntryLike>(
     variable: Variable,
 ) -> Result<bool, RenderError>
     ensures value { IfOk result (λ holds. holds
-        ≡ is_numeric (render_input T.answers ctx.now) ctx.now.state variable) }
+        ≡ spec.is_numeric (render_input T.answers ctx.now) ctx.now.state variable) }
     ensures sound { OnOk result (ctx.now.failed ≡ false) }
     ensures err { IfErr result (λ e. FailsSilently e ctx.now) }
 {
@@ -60,7 +60,7 @@ pub(crate) fn is_uncertain<'s, T: EntryLike>(
     variable: DateVariable,
 ) -> Result<bool, RenderError>
     ensures value { IfOk result (λ holds. holds
-        ≡ is_uncertain (render_input T.answers ctx.now) ctx.now.state variable) }
+        ≡ spec.is_uncertain (render_input T.answers ctx.now) ctx.now.state variable) }
     ensures sound { OnOk result (ctx.now.failed ≡ false) }
     ensures err { IfErr result (λ e. FailsSilently e ctx.now) }
 {
@@ -76,7 +76,8 @@ pub(crate) fn is_located<'s, T: EntryLike>(
     ctx: &Context<'s, T>,
     kind: Locator,
 ) -> Result<bool, RenderError>
-    ensures value { IfOk result (λ holds. holds ≡ is_located (render_input T.answers ctx.now) kind) }
+    ensures value { IfOk result (λ holds. holds
+        ≡ spec.is_located (render_input T.answers ctx.now) kind) }
     ensures sound { OnOk result (ctx.now.failed ≡ false) }
     ensures err { IfErr result (λ e. FailsSilently e ctx.now) }
 {
@@ -89,7 +90,7 @@ pub(crate) fn is_located<'s, T: EntryLike>(
 
 /// Whether the cite before this one is of the same entry.
 fn is_ibid(state: IbidState) -> bool
-    ensures { result ≡ is_ibid state }
+    ensures { result ≡ spec.is_ibid state }
 {
     match state {
         IbidState::Different => false,
@@ -100,7 +101,7 @@ fn is_ibid(state: IbidState) -> bool
 
 /// Whether the cite before this one is of the same entry but did not have this cite's locator.
 fn is_ibid_with_locator(state: IbidState) -> bool
-    ensures { result ≡ is_ibid_with_locator state }
+    ensures { result ≡ spec.is_ibid_with_locator state }
 {
     match state {
         IbidState::Different => false,
@@ -115,7 +116,7 @@ pub(crate) fn is_positioned<'s, T: EntryLike>(
     position: TestPosition,
 ) -> Result<bool, RenderError>
     ensures value { IfOk result (λ holds. holds
-        ≡ is_positioned (render_input T.answers ctx.now) position) }
+        ≡ spec.is_positioned (render_input T.answers ctx.now) position) }
     ensures sound { OnOk result (ctx.now.failed ≡ false) }
     ensures err { IfErr result (λ e. FailsSilently e ctx.now) }
 {
@@ -140,7 +141,8 @@ pub(crate) fn is_of_kind<'s, T: EntryLike>(
     ctx: &Context<'s, T>,
     kind: Kind,
 ) -> Result<bool, RenderError>
-    ensures value { IfOk result (λ holds. holds ≡ is_of_kind (render_input T.answers ctx.now) kind) }
+    ensures value { IfOk result (λ holds. holds
+        ≡ spec.is_of_kind (render_input T.answers ctx.now) kind) }
     ensures sound { OnOk result (ctx.now.failed ≡ false) }
     ensures err { IfErr result (λ e. FailsSilently e ctx.now) }
 {
@@ -155,7 +157,7 @@ pub(crate) fn is_present<'s, T: EntryLike>(
     variable: Variable,
 ) -> Result<bool, RenderError>
     ensures value { IfOk result (λ holds. holds
-        ≡ is_present (render_input T.answers ctx.now) ctx.now.state variable) }
+        ≡ spec.is_present (render_input T.answers ctx.now) ctx.now.state variable) }
     ensures sound { OnOk result (ctx.now.failed ≡ false) }
     ensures err { IfErr result (λ e. FailsSilently e ctx.now) }
 {
@@ -182,7 +184,7 @@ pub(crate) fn is_disambiguated<'s, T: EntryLike>(
     wanted: bool,
 ) -> Result<bool, RenderError>
     ensures value { IfOk result (λ holds. holds
-        ≡ is_disambiguated (render_input T.answers ctx.now) wanted) }
+        ≡ spec.is_disambiguated (render_input T.answers ctx.now) wanted) }
     ensures sound { OnOk result (ctx.now.failed ≡ false) }
     ensures err { IfErr result (λ e. FailsSilently e ctx.now) }
 {

@@ -6,7 +6,7 @@ ghost use Rattle.csl_elements.specs.View.{view_date};
 ghost use Rattle.csl_entry.specs.Answers.{cow_view};
 ghost use Rattle.csl_context.specs.RenderInput.{peek_date};
 ghost use Rattle.csl_context.specs.Context.{Runs, GivesBy, render_input, with_content};
-ghost use Rattle.csl_nodes.specs.Date.{date_box, date_info, date_shows, date_output, is_own, date_shows_variable, date_shows_own, printed_date, date_or_key, resolved_date, localized_node};
+ghost use Rattle.csl_nodes.specs.Date as spec;
 ghost use Rattle.csl_nodes.specs.Text.{Appends};
 ghost use Rattle.csl_nodes.specs.Usage.{info_view};
 
@@ -33,7 +33,7 @@ pub fn date_info<'s, T: EntryLike>(
     node: &Date,
 ) -> Result<(bool, UsageInfo), Memory>
     ensures { GivesBy info_view result
-        (date_info (render_input T.answers ctx.now) ctx.now.state (view_date node.now)) }
+        (spec.date_info (render_input T.answers ctx.now) ctx.now.state (view_date node.now)) }
 {
     let Some(own) = node.variable else {
         return Ok(presence_info(false));
@@ -47,7 +47,7 @@ pub fn date_info<'s, T: EntryLike>(
 
 /// Whether a date shows the variable `asked`.
 pub fn date_shows<'s, T: EntryLike>(ctx: &Context<'s, T>, node: &Date, asked: Variable) -> bool
-    ensures { result ≡ date_shows (render_input T.answers ctx.now) ctx.now.state asked
+    ensures { result ≡ spec.date_shows (render_input T.answers ctx.now) ctx.now.state asked
         (view_date node.now) }
 {
     let first = ctx.peek_is_first_date();
@@ -60,7 +60,8 @@ pub fn render_date<'s, T: EntryLike>(
     ctx: &mut Context<'s, T>,
     node: &Date,
 ) -> Result<(), RenderError>
-    ensures { Appends T.answers (λ w. date_output w (view_date node.now)) result ctx.old ctx.new }
+    ensures { Appends T.answers (λ w. spec.date_output w (view_date node.now)) result ctx.old
+        ctx.new }
 {
     let Some(own) = node.variable else {
         return push_nothing(ctx);
@@ -77,7 +78,7 @@ pub fn render_date<'s, T: EntryLike>(
 
 /// Whether the variable is that of the date.
 fn is_own(own: Option<DateVariable>, asked: Variable) -> bool
-    ensures { result ≡ is_own own asked }
+    ensures { result ≡ spec.is_own own asked }
 {
     match own {
         Some(own) => Variable::Date(own) == asked,
@@ -93,7 +94,7 @@ fn is_shown(
     own: Option<DateVariable>,
     asked: Variable,
 ) -> bool
-    ensures { result ≡ date_shows_variable form first own asked }
+    ensures { result ≡ spec.date_shows_variable form first own asked }
 {
     match form {
         None => is_own(own, asked),
@@ -106,7 +107,7 @@ fn is_shown(
 
 /// Whether a date shows its own variable.
 fn date_shows_own<'s, T: EntryLike>(ctx: &Context<'s, T>, own: DateVariable) -> bool
-    ensures { result ≡ date_shows_own (render_input T.answers ctx.now) ctx.now.state own }
+    ensures { result ≡ spec.date_shows_own (render_input T.answers ctx.now) ctx.now.state own }
 {
     let first = ctx.peek_is_first_date();
     is_shown(ctx.special_form(), first, Some(own), Variable::Date(own))
@@ -133,7 +134,7 @@ fn render_key<'s, T: EntryLike>(
     sorting: Sorting,
     date: &Given,
 ) -> Result<(), RenderError>
-    ensures { Appends T.answers (λ w. date_or_key w
+    ensures { Appends T.answers (λ w. spec.date_or_key w
         (view_date node.now) (Some sorting) (date_view date.now)) result ctx.old ctx.new }
 {
     let suffix = ctx.attempt(implicit_suffix(ctx))?;
@@ -147,8 +148,9 @@ fn write_box<'s, T: EntryLike>(
     written: LocalizedDate<'_>,
     found: DateValue<'_>,
 ) -> Result<(), RenderError>
-    ensures { Runs (λ now. with_content (date_box (render_input T.answers now)
-        (localized_node written.entry) found.entry.suffix.now (date_view found.entry.date.now)) now)
+    ensures { Runs (λ now. with_content (spec.date_box (render_input T.answers now)
+        (spec.localized_node written.entry) found.entry.suffix.now (date_view found.entry.date.now))
+        now)
         result ctx.old ctx.new }
 {
     let around = BodyDressing {
@@ -171,8 +173,8 @@ fn render_box<'s, T: EntryLike>(
     written: LocalizedDate<'_>,
     date: &Given,
 ) -> Result<(), RenderError>
-    ensures { Appends T.answers (λ w. printed_date w
-        (Some (localized_node written.entry)) (date_view date.now)) result ctx.old ctx.new }
+    ensures { Appends T.answers (λ w. spec.printed_date w
+        (Some (spec.localized_node written.entry)) (date_view date.now)) result ctx.old ctx.new }
 {
     let suffix = first_suffix(ctx)?;
     let found = DateValue {
@@ -189,7 +191,7 @@ fn render_found<'s, T: EntryLike>(
     node: &Date,
     date: &Given,
 ) -> Result<(), RenderError>
-    ensures { Appends T.answers (λ w. resolved_date w
+    ensures { Appends T.answers (λ w. spec.resolved_date w
         (view_date node.now) (Some (date_view date.now))) result ctx.old ctx.new }
 {
     if let Some(sorting) = ctx.sorting() {

@@ -3,7 +3,7 @@
 ghost use Rattle.std.specs.Prelude.{◌≡◌, ◌++◌, IfOk, string_bytes};
 ghost use Rattle.lit_model.specs.Date.{date_view};
 ghost use Rattle.csl_elements.specs.View.{view_date};
-ghost use Rattle.csl_nodes.specs.DateKey.{nine_places, year_key, place_key, lists_part, is_keyed, key_if, sort_key, full_key, SortsByTime};
+ghost use Rattle.csl_nodes.specs.DateKey as spec;
 
 use crate::date_text::{names_part, two_digits};
 use csl_entry::Sorting;
@@ -13,7 +13,7 @@ use std::alloc::Global;
 
 /// A number in at least nine places, its sign included.
 fn nine_places(alloc: Global, number: i32) -> Result<String, Memory>
-    ensures { IfOk result (λ s. string_bytes s ≡ nine_places number) }
+    ensures { IfOk result (λ s. string_bytes s ≡ spec.nine_places number) }
 {
     let text = format!(in alloc; "{number:09}")?;
     Ok(text)
@@ -21,7 +21,7 @@ fn nine_places(alloc: Global, number: i32) -> Result<String, Memory>
 
 /// The key of a year.
 fn year_key(alloc: Global, year: i32) -> Result<String, Memory>
-    ensures { IfOk result (λ s. string_bytes s ≡ year_key year) }
+    ensures { IfOk result (λ s. string_bytes s ≡ spec.year_key year) }
 {
     if year >= 0 {
         let places = nine_places(alloc, year)?;
@@ -36,7 +36,7 @@ fn year_key(alloc: Global, year: i32) -> Result<String, Memory>
 
 /// The key of a month or a day, or `00` if there is none.
 fn place_key(alloc: Global, place: Option<u8>) -> Result<String, Memory>
-    ensures { IfOk result (λ s. string_bytes s ≡ place_key place) }
+    ensures { IfOk result (λ s. string_bytes s ≡ spec.place_key place) }
 {
     match place {
         Some(place) => two_digits(alloc, u32::from(place) + 1),
@@ -49,7 +49,7 @@ fn place_key(alloc: Global, place: Option<u8>) -> Result<String, Memory>
 
 /// Whether a date lists a part with that name.
 fn lists_part(node: &Date, name: DatePartName) -> bool
-    ensures { result ≡ lists_part (view_date node.now).date_part name }
+    ensures { result ≡ spec.lists_part (view_date node.now).date_part name }
 {
     for part in &node.date_part {
         if part.name == name {
@@ -63,7 +63,7 @@ fn lists_part(node: &Date, name: DatePartName) -> bool
 /// `date-parts` includes, or all if that is not set. Otherwise it has all for a variable, and the
 /// listed parts for a macro.
 fn is_keyed(node: &Date, sorting: Sorting, part: DatePartName) -> bool
-    ensures { result ≡ is_keyed (view_date node.now) sorting part }
+    ensures { result ≡ spec.is_keyed (view_date node.now) sorting part }
 {
     match node.form {
         Some(_) => names_part(node.parts.unwrap_or(DateParts::YearMonthDay), part),
@@ -76,7 +76,8 @@ fn is_keyed(node: &Date, sorting: Sorting, part: DatePartName) -> bool
 
 /// The key of a year with its suffix, or an empty text if the sort key has no year.
 fn optional_year_key(alloc: Global, has: bool, suffix: &str, year: i32) -> Result<String, Memory>
-    ensures { IfOk result (λ s. string_bytes s ≡ key_if has (year_key year ++ suffix.now)) }
+    ensures { IfOk result (λ s. string_bytes s
+        ≡ spec.key_if has (spec.year_key year ++ suffix.now)) }
 {
     if !has {
         return Ok(String::new(alloc));
@@ -88,7 +89,7 @@ fn optional_year_key(alloc: Global, has: bool, suffix: &str, year: i32) -> Resul
 
 /// The key of a month or a day, or an empty text if the sort key has no such part.
 fn optional_place_key(alloc: Global, has: bool, place: Option<u8>) -> Result<String, Memory>
-    ensures { IfOk result (λ s. string_bytes s ≡ key_if has (place_key place)) }
+    ensures { IfOk result (λ s. string_bytes s ≡ spec.key_if has (spec.place_key place)) }
 {
     if has {
         place_key(alloc, place)
@@ -107,7 +108,7 @@ pub(crate) fn sort_key(
     date: &lit_model::Date,
 ) -> Result<String, Memory>
     ensures { IfOk result (λ s. string_bytes s
-        ≡ sort_key (view_date node.now) sorting suffix.now (date_view date.now)) }
+        ≡ spec.sort_key (view_date node.now) sorting suffix.now (date_view date.now)) }
 {
     let has_year = is_keyed(node, sorting, DatePartName::Year);
     let has_month = is_keyed(node, sorting, DatePartName::Month);
@@ -122,8 +123,8 @@ pub(crate) fn sort_key(
 /// The sort key of a date with all its parts. For the years -1147483647 to 999999999, the bytes of
 /// two such keys are in the order of time: by year, month and day, an absent one first.
 pub fn full_sort_key(alloc: Global, date: &lit_model::Date) -> Result<String, Memory>
-    ensures key { IfOk result (λ s. string_bytes s ≡ full_key (date_view date.now)) }
-    ensures order { IfOk result (λ s. SortsByTime (string_bytes s) date.now) }
+    ensures key { IfOk result (λ s. string_bytes s ≡ spec.full_key (date_view date.now)) }
+    ensures order { IfOk result (λ s. spec.SortsByTime (string_bytes s) date.now) }
 {
     let year = year_key(alloc, date.year())?;
     let month = place_key(alloc, date.month())?;

@@ -10,7 +10,7 @@ ghost use Rattle.csl_tree.specs.Tokens.{has_children};
 ghost use Rattle.csl_context.specs.Context.{Runs, Gives, render_input, with_content};
 ghost use Rattle.csl_context.specs.Texts.{text_in, between_in};
 ghost use Rattle.csl_nodes.specs.Boxes.{in_plain, plain_between};
-ghost use Rattle.csl_nodes.specs.Date.{is_suffix_alone, own_part, form_over, formatting_over, part_under, part_over, suffix_with, part_value, is_stripped, part_content, date_body, localized_node, own_parts, own_named};
+ghost use Rattle.csl_nodes.specs.Date as spec;
 
 use crate::boxes::NodeDressing;
 use crate::date_suffix::is_suffix_alone;
@@ -38,7 +38,8 @@ struct OwnParts<'d> {
 impl<'d> OwnParts<'d> {
     /// The part with this name.
     fn named(self, name: DatePartName) -> Option<&'d DatePart>
-        ensures { option_map (λ part. view_date_part part.now) result ≡ own_named self.entry name }
+        ensures { option_map (λ part. view_date_part part.now) result
+            ≡ spec.own_named self.entry name }
     {
         match name {
             DatePartName::Day => self.day,
@@ -58,7 +59,7 @@ pub(crate) struct DateValue<'d> {
 /// The first part with this name.
 fn part_named(parts: &[DatePart], name: DatePartName) -> Option<&DatePart>
     ensures { option_map (λ part. view_date_part part.now) result
-        ≡ own_part (map view_date_part parts.now) name }
+        ≡ spec.own_part (map view_date_part parts.now) name }
 {
     for part in parts {
         if part.name == name {
@@ -71,7 +72,7 @@ fn part_named(parts: &[DatePart], name: DatePartName) -> Option<&DatePart>
 impl<'d> LocalizedDate<'d> {
     /// The date-parts of the node, else of the localized date, else year, month and day.
     fn parts(self) -> DateParts
-        ensures { result ≡ unwrap_or (localized_node self.entry).parts YearMonthDay }
+        ensures { result ≡ unwrap_or (spec.localized_node self.entry).parts YearMonthDay }
     {
         match self.localized {
             None => self.node.parts.unwrap_or(DateParts::YearMonthDay),
@@ -85,7 +86,7 @@ impl<'d> LocalizedDate<'d> {
 
     /// The delimiter between two parts that print something.
     fn delimiter(self) -> Option<&'d str>
-        ensures { option_map (λ t. t.now) result ≡ (localized_node self.entry).delimiter }
+        ensures { option_map (λ t. t.now) result ≡ (spec.localized_node self.entry).delimiter }
     {
         match self.localized {
             None => self.node.delimiter.as_deref(),
@@ -95,7 +96,7 @@ impl<'d> LocalizedDate<'d> {
 
     /// The formatting of the whole date.
     pub(crate) fn formatting(self) -> Formatting
-        ensures { result ≡ (localized_node self.entry).dressing.formatting }
+        ensures { result ≡ (spec.localized_node self.entry).dressing.formatting }
     {
         match self.localized {
             None => self.node.formatting,
@@ -105,8 +106,8 @@ impl<'d> LocalizedDate<'d> {
 
     /// The parts in order, without the overrides by the node's own parts.
     fn date_part(self) -> &'d [DatePart]
-        ensures { map (part_over (own_parts self.entry)) (map view_date_part result.now)
-            ≡ (localized_node self.entry).date_part }
+        ensures { map (spec.part_over (spec.own_parts self.entry)) (map view_date_part result.now)
+            ≡ (spec.localized_node self.entry).date_part }
     {
         match self.localized {
             None => &self.node.date_part,
@@ -117,7 +118,7 @@ impl<'d> LocalizedDate<'d> {
     /// The node's own part of that name, if there is a localized date to override.
     fn own_part(self, name: DatePartName) -> Option<&'d DatePart>
         ensures { option_map (λ part. view_date_part part.now) result
-            ≡ own_part (own_parts self.entry) name }
+            ≡ spec.own_part (spec.own_parts self.entry) name }
     {
         match self.localized {
             None => None,
@@ -128,7 +129,7 @@ impl<'d> LocalizedDate<'d> {
     /// The node's own part of each name.
     fn own_parts(self) -> OwnParts<'d>
         ensures { (name : DatePartName)
-            → own_named result name ≡ own_part (own_parts self.entry) name }
+            → spec.own_named result name ≡ spec.own_part (spec.own_parts self.entry) name }
     {
         OwnParts {
             day: self.own_part(DatePartName::Day),
@@ -140,7 +141,8 @@ impl<'d> LocalizedDate<'d> {
 
 /// The form of a part. The form of the node's own part replaces it, set or not.
 fn form_over(own: Option<&DatePart>, form: Option<DateAnyForm>) -> Option<DateAnyForm>
-    ensures { result ≡ form_over (option_map (λ part. view_date_part part.now) own.entry) form }
+    ensures { result
+        ≡ spec.form_over (option_map (λ part. view_date_part part.now) own.entry) form }
 {
     match own {
         Some(own) => own.form,
@@ -151,7 +153,7 @@ fn form_over(own: Option<&DatePart>, form: Option<DateAnyForm>) -> Option<DateAn
 /// The formatting of a part, with that of the node's own part over it.
 fn formatting_over(own: Option<&DatePart>, formatting: Formatting) -> Formatting
     ensures { result
-        ≡ formatting_over (option_map (λ part. view_date_part part.now) own.entry) formatting }
+        ≡ spec.formatting_over (option_map (λ part. view_date_part part.now) own.entry) formatting }
 {
     match own {
         Some(own) => own.formatting.apply(formatting),
@@ -161,7 +163,7 @@ fn formatting_over(own: Option<&DatePart>, formatting: Formatting) -> Formatting
 
 /// Whether a part strips its periods. Only a month can.
 fn is_stripped(name: DatePartName, strip: bool) -> bool
-    ensures { result ≡ is_stripped name strip }
+    ensures { result ≡ spec.is_stripped name strip }
 {
     match name {
         DatePartName::Day => false,
@@ -172,7 +174,7 @@ fn is_stripped(name: DatePartName, strip: bool) -> bool
 
 /// The suffix if the part is the year, else an empty text.
 fn suffix_with(name: DatePartName, suffix: &str) -> &str
-    ensures { result.now ≡ suffix_with name suffix.now }
+    ensures { result.now ≡ spec.suffix_with name suffix.now }
 {
     match name {
         DatePartName::Day => "",
@@ -190,8 +192,8 @@ fn part_value<T>(
     name: DatePartName,
     form: Option<DateAnyForm>,
 ) -> Result<String, Memory>
-    ensures { IfOk result (λ text. string_bytes text ≡ part_value ctx.now.style
-        (is_suffix_alone ctx.now.special) parts found.entry.suffix.now
+    ensures { IfOk result (λ text. string_bytes text ≡ spec.part_value ctx.now.style
+        (spec.is_suffix_alone ctx.now.special) parts found.entry.suffix.now
         (date_view found.entry.date.now) name form) }
 {
     let alone = is_suffix_alone(ctx.special_form());
@@ -236,9 +238,9 @@ fn render_part<'s, T: EntryLike>(
     own: Option<&DatePart>,
     part: &DatePart,
 ) -> Result<(), RenderError>
-    ensures { Runs (λ now. with_content (λ inh. part_content (render_input T.answers now)
-        (unwrap_or (localized_node written.entry).parts YearMonthDay) found.entry.suffix.now
-        (date_view found.entry.date.now) inh (part_under
+    ensures { Runs (λ now. with_content (λ inh. spec.part_content (render_input T.answers now)
+        (unwrap_or (spec.localized_node written.entry).parts YearMonthDay) found.entry.suffix.now
+        (date_view found.entry.date.now) inh (spec.part_under
         (option_map (λ part. view_date_part part.now) own.entry)
         (view_date_part part.now))) now) result ctx.old ctx.new }
 {
@@ -265,17 +267,18 @@ fn render_next_part<'s, T: EntryLike>(
     part: &DatePart,
     first: bool,
 ) -> Result<bool, RenderError>
-    ensures value { Gives result (first && not (has_children (part_content
+    ensures value { Gives result (first && not (has_children (spec.part_content
         (render_input T.answers ctx.old) (unwrap_or
-        (localized_node written.entry).parts YearMonthDay)
-        found.entry.suffix.now (date_view found.entry.date.now) ctx.old.inherited (part_under
+        (spec.localized_node written.entry).parts YearMonthDay)
+        found.entry.suffix.now (date_view found.entry.date.now) ctx.old.inherited (spec.part_under
         (option_map (λ part. view_date_part part.now) own.entry) (view_date_part part.now))))) }
     ensures after { Runs (λ now. with_content (λ inh.
-        let part = part_content (render_input T.answers now)
-        (unwrap_or (localized_node written.entry).parts YearMonthDay) found.entry.suffix.now
-        (date_view found.entry.date.now) inh (part_under
+        let part = spec.part_content (render_input T.answers now)
+        (unwrap_or (spec.localized_node written.entry).parts YearMonthDay) found.entry.suffix.now
+        (date_view found.entry.date.now) inh (spec.part_under
         (option_map (λ part. view_date_part part.now) own.entry) (view_date_part part.now)) in
-        if first then part else between_in inh (localized_node written.entry).delimiter None part)
+        if first then part else between_in inh (spec.localized_node written.entry).delimiter None
+        part)
         now) result ctx.old ctx.new }
 {
     let mark = ctx.push_elem()?;
@@ -295,8 +298,9 @@ pub(crate) fn render_parts<'s, T: EntryLike>(
     written: LocalizedDate<'_>,
     found: DateValue<'_>,
 ) -> Result<(), RenderError>
-    ensures { Runs (λ now. with_content (date_body (render_input T.answers now)
-        (localized_node written.entry) found.entry.suffix.now (date_view found.entry.date.now)) now)
+    ensures { Runs (λ now. with_content (spec.date_body (render_input T.answers now)
+        (spec.localized_node written.entry) found.entry.suffix.now (date_view found.entry.date.now))
+        now)
         result ctx.old ctx.new }
 {
     ctx.ensure_live()?;

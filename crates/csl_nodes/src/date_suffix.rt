@@ -3,7 +3,7 @@
 
 ghost use Rattle.std.specs.Prelude.{◌≡◌, string_bytes};
 ghost use Rattle.csl_context.specs.Context.{Runs, GivesBy, render_input, with_first_date};
-ghost use Rattle.csl_nodes.specs.Date.{implicit_suffix, first_suffix, is_suffix_alone};
+ghost use Rattle.csl_nodes.specs.Date as spec;
 
 use crate::resolved::peek_standard;
 use csl_context::{Context, RenderError};
@@ -13,7 +13,7 @@ use lit_model::{LongShortForm, Memory};
 
 /// Whether the parts of a date lose all but the year suffix.
 pub(crate) fn is_suffix_alone(form: Option<SpecialForm>) -> bool
-    ensures { result ≡ is_suffix_alone form }
+    ensures { result ≡ spec.is_suffix_alone form }
 {
     match form {
         None => false,
@@ -28,7 +28,7 @@ pub(crate) fn is_suffix_alone(form: Option<SpecialForm>) -> bool
 /// a text of it. The lookup is silent.
 pub(crate) fn implicit_suffix<'s, T: EntryLike>(ctx: &Context<'s, T>) -> Result<String, Memory>
     ensures { GivesBy string_bytes result
-        (implicit_suffix (render_input T.answers ctx.now) ctx.now.state) }
+        (spec.implicit_suffix (render_input T.answers ctx.now) ctx.now.state) }
 {
     let alloc = ctx.alloc();
     let found = match peek_standard(ctx, LongShortForm::Long, StandardVariable::YearSuffix)? {
@@ -48,7 +48,7 @@ pub(crate) fn first_suffix<'s, T: EntryLike>(
     ctx: &mut Context<'s, T>,
 ) -> Result<String, RenderError>
     ensures value { GivesBy string_bytes result
-        (first_suffix (render_input T.answers ctx.old) ctx.old.state) }
+        (spec.first_suffix (render_input T.answers ctx.old) ctx.old.state) }
     ensures after { Runs with_first_date result ctx.old ctx.new }
 {
     ctx.ensure_live()?;

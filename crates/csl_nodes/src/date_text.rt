@@ -3,7 +3,7 @@
 
 ghost use Rattle.std.specs.Prelude.{◌≡◌, ◌+◌, ◌++◌, ◌≤◌, IfOk, string_bytes, option_map, decimal};
 ghost use Rattle.lit_model.specs.Date.{date_view};
-ghost use Rattle.csl_nodes.specs.DateText.{names_part, is_written, word, two_digits, is_short, ad_text, bc_text, common_year, year_text, month_named, month_text, season_text, month_or_season, month_gender, ordinal_suffix, ordinal_day, day_text, optional_day, part_text};
+ghost use Rattle.csl_nodes.specs.DateText as spec;
 
 use csl_context::Context;
 use csl_style::{DateAnyForm, DatePartName, DateParts, OtherTerm, Term, TermForm};
@@ -12,7 +12,7 @@ use std::alloc::Global;
 
 /// Whether these date-parts include the part.
 pub(crate) fn names_part(parts: DateParts, part: DatePartName) -> bool
-    ensures { result ≡ names_part parts part }
+    ensures { result ≡ spec.names_part parts part }
 {
     match parts {
         DateParts::YearMonthDay => true,
@@ -32,7 +32,7 @@ pub(crate) fn names_part(parts: DateParts, part: DatePartName) -> bool
 /// Whether a part of a date is written: the year always, any other if the date-parts include it. A
 /// month is also written if the date has a season.
 pub(crate) fn is_written(parts: DateParts, date: &Date, part: DatePartName) -> bool
-    ensures { result ≡ is_written parts (date_view date.now) part }
+    ensures { result ≡ spec.is_written parts (date_view date.now) part }
 {
     match part {
         DatePartName::Day => names_part(parts, DatePartName::Day),
@@ -43,14 +43,14 @@ pub(crate) fn is_written(parts: DateParts, date: &Date, part: DatePartName) -> b
 
 /// A term that names no variable, in the singular.
 fn word<'s, T>(ctx: &Context<'s, T>, term: OtherTerm, form: TermForm) -> Option<&'s str>
-    ensures { option_map (λ text. text.now) result ≡ word ctx.now.style term form }
+    ensures { option_map (λ text. text.now) result ≡ spec.word ctx.now.style term form }
 {
     ctx.term(Term::Other(term), form, false)
 }
 
 /// A number in at least two digits.
 pub(crate) fn two_digits(alloc: Global, number: u32) -> Result<String, Memory>
-    ensures { IfOk result (λ s. string_bytes s ≡ two_digits number) }
+    ensures { IfOk result (λ s. string_bytes s ≡ spec.two_digits number) }
 {
     let text = format!(in alloc; "{number:02}")?;
     Ok(text)
@@ -58,7 +58,7 @@ pub(crate) fn two_digits(alloc: Global, number: u32) -> Result<String, Memory>
 
 /// Whether the form shortens a year to its last two digits.
 fn is_short(form: Option<DateAnyForm>) -> bool
-    ensures { result ≡ is_short form }
+    ensures { result ≡ spec.is_short form }
 {
     match form {
         None => false,
@@ -73,7 +73,8 @@ fn is_short(form: Option<DateAnyForm>) -> bool
 /// A year from year 1 on: before 1000 with its era, else in full or, if `short`, its last two
 /// digits.
 fn common_year<T>(ctx: &Context<'_, T>, short: bool, year: u32) -> Result<String, Memory>
-    ensures { IfOk result (λ s. string_bytes s ≡ common_year short (ad_text ctx.now.style) year) }
+    ensures { IfOk result (λ s. string_bytes s
+        ≡ spec.common_year short (spec.ad_text ctx.now.style) year) }
 {
     if year < 1000 {
         let ad = word(ctx, OtherTerm::Ad, TermForm::Long).unwrap_or(" AD");
@@ -89,7 +90,7 @@ fn common_year<T>(ctx: &Context<'_, T>, short: bool, year: u32) -> Result<String
 
 /// The year `count` years before year 1, with its era.
 fn year_before<T>(ctx: &Context<'_, T>, count: u32) -> Result<String, Memory>
-    ensures { IfOk result (λ s. string_bytes s ≡ decimal count ++ bc_text ctx.now.style) }
+    ensures { IfOk result (λ s. string_bytes s ≡ decimal count ++ spec.bc_text ctx.now.style) }
 {
     let bc = word(ctx, OtherTerm::Bc, TermForm::Long).unwrap_or(" BC");
     let text = format!(in ctx.alloc(); "{count}{bc}")?;
@@ -102,7 +103,7 @@ fn year_text<T>(
     form: Option<DateAnyForm>,
     year: i32,
 ) -> Result<String, Memory>
-    ensures { IfOk result (λ s. string_bytes s ≡ year_text ctx.now.style form year) }
+    ensures { IfOk result (λ s. string_bytes s ≡ spec.year_text ctx.now.style form year) }
 {
     let distance = year.unsigned_abs();
     if year > 0 {
@@ -117,7 +118,7 @@ fn year_text<T>(
 
 /// The term of a month, else its number.
 fn month_named<T>(ctx: &Context<'_, T>, form: TermForm, month: u8) -> Result<String, Memory>
-    ensures { IfOk result (λ s. string_bytes s ≡ month_named ctx.now.style form month) }
+    ensures { IfOk result (λ s. string_bytes s ≡ spec.month_named ctx.now.style form month) }
 {
     match word(ctx, OtherTerm::Month(month), form) {
         Some(name) => {
@@ -143,7 +144,7 @@ fn month_text<T>(
     form: Option<DateAnyForm>,
     month: u8,
 ) -> Result<String, Memory>
-    ensures { IfOk result (λ s. string_bytes s ≡ month_text ctx.now.style form month) }
+    ensures { IfOk result (λ s. string_bytes s ≡ spec.month_text ctx.now.style form month) }
 {
     match form {
         None => month_named(ctx, TermForm::Long, month),
@@ -157,7 +158,7 @@ fn month_text<T>(
 
 /// The short term of a season, or an empty text.
 fn season_text<T>(ctx: &Context<'_, T>, season: Option<Season>) -> Result<String, Memory>
-    ensures { IfOk result (λ s. string_bytes s ≡ season_text ctx.now.style season) }
+    ensures { IfOk result (λ s. string_bytes s ≡ spec.season_text ctx.now.style season) }
 {
     let term = match season {
         Some(season) => word(ctx, OtherTerm::Season(season), TermForm::Short).unwrap_or(""),
@@ -174,7 +175,8 @@ fn month_or_season<T>(
     month: Option<u8>,
     season: Option<Season>,
 ) -> Result<String, Memory>
-    ensures { IfOk result (λ s. string_bytes s ≡ month_or_season ctx.now.style form month season) }
+    ensures { IfOk result (λ s. string_bytes s
+        ≡ spec.month_or_season ctx.now.style form month season) }
 {
     match month {
         Some(month) => month_text(ctx, form, month),
@@ -184,7 +186,7 @@ fn month_or_season<T>(
 
 /// The gender of a month's term.
 fn month_gender<T>(ctx: &Context<'_, T>, month: Option<u8>) -> Option<GrammarGender>
-    ensures { result ≡ month_gender ctx.now.style month }
+    ensures { result ≡ spec.month_gender ctx.now.style month }
 {
     match month {
         Some(month) => ctx.gender(Term::Other(OtherTerm::Month(month))),
@@ -194,7 +196,7 @@ fn month_gender<T>(ctx: &Context<'_, T>, month: Option<u8>) -> Option<GrammarGen
 
 /// The suffix that makes a number an ordinal, or an empty text.
 fn ordinal_suffix<'s, T>(ctx: &Context<'s, T>, gender: Option<GrammarGender>, number: u8) -> &'s str
-    ensures { result.now ≡ ordinal_suffix ctx.now.style gender number }
+    ensures { result.now ≡ spec.ordinal_suffix ctx.now.style gender number }
 {
     ctx.ordinal_lookup()
         .suffix(i32::from(number), gender)
@@ -204,7 +206,7 @@ fn ordinal_suffix<'s, T>(ctx: &Context<'s, T>, gender: Option<GrammarGender>, nu
 /// A day as an ordinal in the gender of the month. A locale may limit ordinals to the first day.
 fn ordinal_day<T>(ctx: &Context<'_, T>, month: Option<u8>, day: u8) -> Result<String, Memory>
     requires { day ≤ 30 }
-    ensures { IfOk result (λ s. string_bytes s ≡ ordinal_day ctx.now.style month day) }
+    ensures { IfOk result (λ s. string_bytes s ≡ spec.ordinal_day ctx.now.style month day) }
 {
     if ctx.style().are_day_ordinals_limited() && day != 0 {
         return number_text(ctx.alloc(), day);
@@ -223,7 +225,7 @@ fn day_text<T>(
     day: u8,
 ) -> Result<String, Memory>
     requires { day ≤ 30 }
-    ensures { IfOk result (λ s. string_bytes s ≡ day_text ctx.now.style form month day) }
+    ensures { IfOk result (λ s. string_bytes s ≡ spec.day_text ctx.now.style form month day) }
 {
     match form {
         None => number_text(ctx.alloc(), day),
@@ -241,7 +243,7 @@ fn optional_day<T>(
     form: Option<DateAnyForm>,
     date: &Date,
 ) -> Result<String, Memory>
-    ensures { IfOk result (λ s. string_bytes s ≡ optional_day ctx.now.style form
+    ensures { IfOk result (λ s. string_bytes s ≡ spec.optional_day ctx.now.style form
         (date_view date.now).month (date_view date.now).day) }
 {
     match date.day() {
@@ -260,7 +262,7 @@ pub(crate) fn part_text<T>(
     date: &Date,
 ) -> Result<String, Memory>
     ensures { IfOk result (λ s. string_bytes s
-        ≡ part_text ctx.now.style name form (date_view date.now)) }
+        ≡ spec.part_text ctx.now.style name form (date_view date.now)) }
 {
     match name {
         DatePartName::Day => optional_day(ctx, form, date),

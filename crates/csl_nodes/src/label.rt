@@ -4,7 +4,7 @@ ghost use Rattle.std.specs.Prelude.{◌≡◌, option_map};
 ghost use Rattle.csl_elements.specs.Names.{view_label};
 ghost use Rattle.csl_entry.specs.NumberResult.{result_view, number_or_page_view};
 ghost use Rattle.csl_context.specs.Context.{GivesBy, render_input};
-ghost use Rattle.csl_nodes.specs.Label.{label_info, label_output, label_term, is_count, plural_number, is_plural, label_text, is_locator, is_other_number, label_unless_locator, label_by_special_form};
+ghost use Rattle.csl_nodes.specs.Label as spec;
 ghost use Rattle.csl_nodes.specs.Text.{Appends};
 ghost use Rattle.csl_nodes.specs.Usage.{info_view};
 
@@ -30,7 +30,8 @@ pub fn label_info<'s, T: EntryLike>(
     ctx: &Context<'s, T>,
     label: &Label,
 ) -> Result<(bool, UsageInfo), Memory>
-    ensures { GivesBy info_view result (label_info (render_input T.answers ctx.now) ctx.now.state
+    ensures { GivesBy info_view result (spec.label_info (render_input T.answers ctx.now)
+        ctx.now.state
         label.now.variable (view_label label.now.label)) }
 {
     match label_by_special_form(ctx.special_form(), label.variable) {
@@ -48,7 +49,7 @@ pub fn render_label<'s, T: EntryLike>(
     ctx: &mut Context<'s, T>,
     label: &Label,
 ) -> Result<(), RenderError>
-    ensures { Appends T.answers (λ w. label_output w label.now.variable
+    ensures { Appends T.answers (λ w. spec.label_output w label.now.variable
         (view_label label.now.label))
         result ctx.old ctx.new }
 {
@@ -71,7 +72,7 @@ pub fn render_label<'s, T: EntryLike>(
 
 /// Whether the variable is the locator.
 fn is_locator(variable: NumberOrPageVariable) -> bool
-    ensures { result ≡ is_locator variable }
+    ensures { result ≡ spec.is_locator variable }
 {
     match variable {
         NumberOrPageVariable::Number(variable) => variable == NumberVariable::Locator,
@@ -81,7 +82,7 @@ fn is_locator(variable: NumberOrPageVariable) -> bool
 
 /// Whether `only` is a number variable other than `variable`.
 fn is_other_number(only: Variable, variable: NumberOrPageVariable) -> bool
-    ensures { result ≡ is_other_number only variable }
+    ensures { result ≡ spec.is_other_number only variable }
 {
     match only {
         Variable::Standard(_) => false,
@@ -94,7 +95,7 @@ fn is_other_number(only: Variable, variable: NumberOrPageVariable) -> bool
 
 /// Decides that a label prints, but leaves the label of a locator undecided.
 fn label_unless_locator(variable: NumberOrPageVariable) -> Option<bool>
-    ensures { result ≡ label_unless_locator variable }
+    ensures { result ≡ spec.label_unless_locator variable }
 {
     if is_locator(variable) {
         None
@@ -105,7 +106,7 @@ fn label_unless_locator(variable: NumberOrPageVariable) -> Option<bool>
 
 /// Whether a label of the variable prints, if the special form decides it without a lookup.
 fn label_by_special_form(form: Option<SpecialForm>, variable: NumberOrPageVariable) -> Option<bool>
-    ensures { result ≡ label_by_special_form form variable }
+    ensures { result ≡ spec.label_by_special_form form variable }
 {
     match form {
         None => None,
@@ -125,7 +126,7 @@ fn label_by_special_form(form: Option<SpecialForm>, variable: NumberOrPageVariab
 /// The term of a label of the variable. A locator has the term of its kind; the custom kind has
 /// none.
 fn label_term<T>(ctx: &Context<'_, T>, variable: NumberOrPageVariable) -> Option<Term>
-    ensures { result ≡ label_term ctx.now.cite variable }
+    ensures { result ≡ spec.label_term ctx.now.cite variable }
 {
     if !is_locator(variable) {
         return Some(Term::from(variable));
@@ -138,7 +139,7 @@ fn label_term<T>(ctx: &Context<'_, T>, variable: NumberOrPageVariable) -> Option
 
 /// Whether the variable counts pages or volumes.
 fn is_count(variable: NumberOrPageVariable) -> bool
-    ensures { result ≡ is_count variable }
+    ensures { result ≡ spec.is_count variable }
 {
     match variable {
         NumberOrPageVariable::Number(variable) => {
@@ -150,7 +151,7 @@ fn is_count(variable: NumberOrPageVariable) -> bool
 
 /// Whether a term beside the answer to a number variable is in the plural.
 fn plural_number(counts: bool, found: &NumberVariableResult<'_>) -> bool
-    ensures { result ≡ plural_number counts (result_view found.now) }
+    ensures { result ≡ spec.plural_number counts (result_view found.now) }
 {
     match found {
         NumberVariableResult::Regular(MaybeTyped::Typed(number)) => {
@@ -164,7 +165,7 @@ fn plural_number(counts: bool, found: &NumberVariableResult<'_>) -> bool
 /// Whether a label is in the plural beside an answer. Beside pages it is if the pages are, whatever
 /// the label sets.
 fn is_plural(label: &Label, found: &NumberOrPageVariableResult<'_>) -> bool
-    ensures { result ≡ is_plural label.now.label.plural label.now.variable
+    ensures { result ≡ spec.is_plural label.now.label.plural label.now.variable
         (number_or_page_view found.now) }
 {
     match found {
@@ -183,7 +184,8 @@ fn label_text<'s, T: EntryLike>(
     ctx: &Context<'s, T>,
     label: &Label,
 ) -> Result<Option<&'s str>, Memory>
-    ensures { GivesBy (option_map (λ t. t.now)) result (label_text (render_input T.answers ctx.now)
+    ensures { GivesBy (option_map (λ t. t.now)) result (spec.label_text (render_input T.answers
+        ctx.now)
         ctx.now.state label.now.variable (view_label label.now.label)) }
 {
     match peek_number_or_page(ctx, label.variable)? {

@@ -5,7 +5,7 @@ ghost use Rattle.std.specs.Prelude.{◌≡◌, ◌++◌, IfOk, option_map, strin
 ghost use Rattle.lit_model.specs.Text.{chunks};
 ghost use Rattle.lit_model.specs.Chunks.{chunks_text};
 ghost use Rattle.csl_elements.specs.View.{text_dressing};
-ghost use Rattle.csl_nodes.specs.Text.{url_prefix, address_prefix, begins_link};
+ghost use Rattle.csl_nodes.specs.Text as spec;
 
 use csl_style::{StandardVariable, Text};
 use lit_model::{ChunkedString, Memory};
@@ -13,7 +13,7 @@ use std::alloc::Global;
 
 /// The text before the answer to a DOI, PMID or PMCID in the address that it links to.
 pub(crate) fn url_prefix(variable: StandardVariable) -> Option<&'static str>
-    ensures { option_map (λ prefix. prefix.now) result ≡ url_prefix variable }
+    ensures { option_map (λ prefix. prefix.now) result ≡ spec.url_prefix variable }
 {
     if variable == StandardVariable::DOI {
         Some("https://doi.org/")
@@ -29,7 +29,7 @@ pub(crate) fn url_prefix(variable: StandardVariable) -> Option<&'static str>
 /// The text before the answer in the address that it links to; for a URL it is empty, because the
 /// answer is the address.
 pub(crate) fn address_prefix(variable: StandardVariable) -> Option<&'static str>
-    ensures { option_map (λ prefix. prefix.now) result ≡ address_prefix variable }
+    ensures { option_map (λ prefix. prefix.now) result ≡ spec.address_prefix variable }
 {
     if variable == StandardVariable::URL {
         Some("")
@@ -40,7 +40,7 @@ pub(crate) fn address_prefix(variable: StandardVariable) -> Option<&'static str>
 
 /// Whether the node's prefix is that of the address. It then begins the text of the link.
 pub(crate) fn begins_link(text: &Text, variable: StandardVariable) -> bool
-    ensures { result ≡ begins_link (text_dressing text.now) variable }
+    ensures { result ≡ spec.begins_link (text_dressing text.now) variable }
 {
     match (url_prefix(variable), text.affixes.prefix.as_deref()) {
         (Some(address), Some(prefix)) => prefix == address,

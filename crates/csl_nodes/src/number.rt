@@ -7,7 +7,7 @@ ghost use Rattle.csl_elements.specs.View.{view_number};
 ghost use Rattle.csl_tree.specs.Tokens.{meta_of};
 ghost use Rattle.csl_entry.specs.NumberResult.{number_or_page_view};
 ghost use Rattle.csl_context.specs.Context.{Runs, GivesBy, render_input, with_content};
-ghost use Rattle.csl_nodes.specs.Number.{is_shown, presence_info, number_info, number_shows, number_output, optional_sort_text, number_meta, number_content, optional_number_content};
+ghost use Rattle.csl_nodes.specs.Number as spec;
 ghost use Rattle.csl_nodes.specs.Text.{Appends};
 ghost use Rattle.csl_nodes.specs.Usage.{info_view};
 
@@ -34,7 +34,7 @@ pub fn number_info<'s, T: EntryLike>(
     number: &Number,
 ) -> Result<(bool, UsageInfo), Memory>
     ensures { GivesBy info_view result
-        (number_info (render_input T.answers ctx.now) ctx.now.state (view_number number.now)) }
+        (spec.number_info (render_input T.answers ctx.now) ctx.now.state (view_number number.now)) }
 {
     let own = Variable::from(number.variable);
     if !is_shown(ctx.special_form(), own, own) {
@@ -50,7 +50,7 @@ pub fn number_shows<'s, T: EntryLike>(
     number: &Number,
     asked: Variable,
 ) -> bool
-    ensures { result ≡ number_shows (render_input T.answers ctx.now) asked
+    ensures { result ≡ spec.number_shows (render_input T.answers ctx.now) asked
         (view_number number.now) }
 {
     is_shown(ctx.special_form(), Variable::from(number.variable), asked)
@@ -62,7 +62,7 @@ pub fn render_number<'s, T: EntryLike>(
     ctx: &mut Context<'s, T>,
     number: &Number,
 ) -> Result<(), RenderError>
-    ensures { Appends T.answers (λ w. number_output w (view_number number.now))
+    ensures { Appends T.answers (λ w. spec.number_output w (view_number number.now))
         result ctx.old ctx.new }
 {
     let own = Variable::from(number.variable);
@@ -77,7 +77,7 @@ pub fn render_number<'s, T: EntryLike>(
 
 /// Whether a number of the variable `own` shows the variable `asked`.
 fn is_shown(form: Option<SpecialForm>, own: Variable, asked: Variable) -> bool
-    ensures { result ≡ is_shown form own asked }
+    ensures { result ≡ spec.is_shown form own asked }
 {
     match form {
         None => own == asked,
@@ -90,7 +90,7 @@ fn is_shown(form: Option<SpecialForm>, own: Variable, asked: Variable) -> bool
 
 /// The dry run of a number or a date, by whether its variable is found.
 pub(crate) fn presence_info(found: bool) -> (bool, UsageInfo)
-    ensures { info_view result ≡ presence_info found }
+    ensures { info_view result ≡ spec.presence_info found }
 {
     (found, UsageInfo::of_variable(true, found))
 }
@@ -114,7 +114,7 @@ fn optional_sort_text<T>(
     found: &NumberOrPageVariableResult<'_>,
 ) -> Result<Option<String>, Memory>
     ensures { IfOk result (λ key. option_map string_bytes key
-        ≡ optional_sort_text ctx.now.sorting (number_or_page_view found.now)) }
+        ≡ spec.optional_sort_text ctx.now.sorting (number_or_page_view found.now)) }
 {
     if ctx.sorting().is_none() {
         return Ok(None);
@@ -139,7 +139,7 @@ fn optional_sort_text<T>(
 
 /// The meta of the box of a number of the variable.
 fn number_meta(variable: NumberOrPageVariable) -> ElemMeta
-    ensures { meta_of result ≡ number_meta variable }
+    ensures { meta_of result ≡ spec.number_meta variable }
 {
     match variable {
         NumberOrPageVariable::Number(variable) => {
@@ -159,7 +159,7 @@ fn render_box<'s, T: EntryLike>(
     number: &Number,
     found: &NumberOrPageVariableResult<'_>,
 ) -> Result<(), RenderError>
-    ensures { Runs (λ now. with_content (number_content (render_input T.answers now)
+    ensures { Runs (λ now. with_content (spec.number_content (render_input T.answers now)
         (view_number number.now) (number_or_page_view found.now) None) now) result ctx.old ctx.new }
 {
     let gender = ctx.gender(Term::from(number.variable));
@@ -184,7 +184,7 @@ fn render_found<'s, T: EntryLike>(
     number: &Number,
     found: &NumberOrPageVariableResult<'_>,
 ) -> Result<(), RenderError>
-    ensures { Runs (λ now. with_content (optional_number_content (render_input T.answers now)
+    ensures { Runs (λ now. with_content (spec.optional_number_content (render_input T.answers now)
         (view_number
         number.now) (Some (number_or_page_view found.now))) now) result ctx.old ctx.new }
 {

@@ -7,7 +7,7 @@ ghost use Rattle.csl_elements.specs.Taxonomy.{variable_of};
 ghost use Rattle.csl_entry.specs.NumberResult.{result_view, number_or_page_view};
 ghost use Rattle.csl_context.specs.RenderInput.{number_text};
 ghost use Rattle.csl_context.specs.Context.{Runs, GivesBy, render_input, after_resolve};
-ghost use Rattle.csl_nodes.specs.NumberOrPage.{peek_number_or_page, number_text_view, number_result_text, number_node_text, text_node_text};
+ghost use Rattle.csl_nodes.specs.NumberOrPage as spec;
 
 use crate::pages::{pages_in_style, with_dashes};
 use csl_context::{Context, RenderError};
@@ -30,7 +30,7 @@ pub(crate) fn peek_number_or_page<'s, T: EntryLike>(
     variable: NumberOrPageVariable,
 ) -> Result<Option<NumberOrPageVariableResult<'s>>, Memory>
     ensures { GivesBy (option_map number_or_page_view) result
-        (peek_number_or_page (render_input T.answers ctx.now) ctx.now.state variable) }
+        (spec.peek_number_or_page (render_input T.answers ctx.now) ctx.now.state variable) }
 {
     match variable {
         NumberOrPageVariable::Number(variable) => match ctx.peek_number_variable(variable) {
@@ -52,7 +52,7 @@ pub(crate) fn resolve_number_or_page<'s, T: EntryLike>(
     variable: NumberOrPageVariable,
 ) -> Result<Option<NumberOrPageVariableResult<'s>>, RenderError>
     ensures value { GivesBy (option_map number_or_page_view) result
-        (peek_number_or_page (render_input T.answers ctx.old) ctx.old.state variable) }
+        (spec.peek_number_or_page (render_input T.answers ctx.old) ctx.old.state variable) }
     ensures after { Runs (after_resolve (variable_of variable)) result ctx.old ctx.new }
 {
     match variable {
@@ -91,8 +91,8 @@ fn number_result_text<T>(
     gender: Option<GrammarGender>,
     found: &NumberVariableResult<'_>,
 ) -> Result<NumberText, Memory>
-    ensures { IfOk result (λ shown. number_text_view shown
-        ≡ number_result_text ctx.now.style form gender (result_view found.now)) }
+    ensures { IfOk result (λ shown. spec.number_text_view shown
+        ≡ spec.number_result_text ctx.now.style form gender (result_view found.now)) }
 {
     match found {
         NumberVariableResult::Regular(MaybeTyped::Typed(number)) => {
@@ -115,8 +115,8 @@ pub(crate) fn number_node_text<T>(
     gender: Option<GrammarGender>,
     found: &NumberOrPageVariableResult<'_>,
 ) -> Result<NumberText, Memory>
-    ensures { IfOk result (λ shown. number_text_view shown
-        ≡ number_node_text ctx.now.style form gender (number_or_page_view found.now)) }
+    ensures { IfOk result (λ shown. spec.number_text_view shown
+        ≡ spec.number_node_text ctx.now.style form gender (number_or_page_view found.now)) }
 {
     match found {
         NumberOrPageVariableResult::Number(number) => number_result_text(ctx, form, gender, number),
@@ -137,8 +137,8 @@ pub(crate) fn text_node_text<T>(
     ctx: &Context<'_, T>,
     found: &NumberOrPageVariableResult<'_>,
 ) -> Result<NumberText, Memory>
-    ensures { IfOk result (λ shown. number_text_view shown
-        ≡ text_node_text ctx.now.style (number_or_page_view found.now)) }
+    ensures { IfOk result (λ shown. spec.number_text_view shown
+        ≡ spec.text_node_text ctx.now.style (number_or_page_view found.now)) }
 {
     match found {
         NumberOrPageVariableResult::Number(number) => {

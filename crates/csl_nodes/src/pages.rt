@@ -6,7 +6,7 @@ ghost use Rattle.std.specs.Str.{IsAscii};
 ghost use Rattle.lit_model.specs.Numeric.{numeric_view};
 ghost use Rattle.lit_model.specs.NumericWrite.{numeric_text};
 ghost use Rattle.lit_model.specs.Page.{part_view, pages_view};
-ghost use Rattle.csl_nodes.specs.Pages.{is_digits, completed_end, abbreviated_end, kept_digits, end_text, range_text, part_text, pages_in_format, pages_in_style, with_dashes};
+ghost use Rattle.csl_nodes.specs.Pages as spec;
 
 use csl_context::Context;
 use csl_style::{OtherTerm, PageRangeFormat, Term, TermForm};
@@ -16,7 +16,7 @@ use std::alloc::Global;
 /// The least number of digits that a format keeps of the end of a range, if it drops repeated ones.
 /// No style has a Chicago format.
 fn kept_digits(format: Option<PageRangeFormat>) -> Option<usize>
-    ensures { result ≡ kept_digits format }
+    ensures { result ≡ spec.kept_digits format }
 {
     match format {
         None => None,
@@ -30,7 +30,7 @@ fn kept_digits(format: Option<PageRangeFormat>) -> Option<usize>
 
 /// Whether the text is a number of ASCII digits: at least one digit, and nothing else.
 fn is_digits(text: &str) -> bool
-    ensures value { result ≡ is_digits text.now }
+    ensures value { result ≡ spec.is_digits text.now }
     ensures ascii { result ≡ true → IsAscii text.now }
 {
     !text.is_empty() && text.bytes().all(|b| b.is_ascii_digit())
@@ -40,7 +40,7 @@ fn is_digits(text: &str) -> bool
 fn completed_end(alloc: Global, from: &str, to: &str) -> Result<String, Memory>
     requires from { IsAscii from.now }
     requires to { IsAscii to.now }
-    ensures text { IfOk result (λ s. string_bytes s ≡ completed_end from.now to.now) }
+    ensures text { IfOk result (λ s. string_bytes s ≡ spec.completed_end from.now to.now) }
     ensures ascii { IfOk result (λ s. IsAscii (string_bytes s)) }
 {
     let missing = from.len().saturating_sub(to.len());
@@ -55,7 +55,7 @@ fn completed_end(alloc: Global, from: &str, to: &str) -> Result<String, Memory>
 fn abbreviated_end<'t>(from: &str, to: &'t str, kept: usize) -> &'t str
     requires ascii { IsAscii to.now }
     requires long { length from.now ≡ length to.now }
-    ensures { result.now ≡ abbreviated_end kept from.now to.now }
+    ensures { result.now ≡ spec.abbreviated_end kept from.now to.now }
 {
     let start = from.as_bytes();
     let end = to.as_bytes();
@@ -79,7 +79,7 @@ fn push_end(
     to: &str,
 ) -> Result<(), Memory>
     ensures { OnOk result (string_bytes text.new
-        ≡ string_bytes text.old ++ end_text kept from.now to.now) }
+        ≡ string_bytes text.old ++ spec.end_text kept from.now to.now) }
 {
     if !is_digits(from) || !is_digits(to) {
         text.push_str(to)?;
@@ -105,7 +105,7 @@ fn push_range(
     to: &Numeric,
 ) -> Result<(), Memory>
     ensures { OnOk result (string_bytes text.new ≡ string_bytes text.old
-        ++ range_text kept delimiter.now (numeric_text (numeric_view from.now))
+        ++ spec.range_text kept delimiter.now (numeric_text (numeric_view from.now))
         (numeric_text (numeric_view to.now))) }
 {
     let from = from.to_string(alloc)?;
@@ -124,7 +124,7 @@ fn push_part(
     part: &PageRangesPart,
 ) -> Result<(), Memory>
     ensures { OnOk result (string_bytes text.new
-        ≡ string_bytes text.old ++ part_text kept delimiter.now (part_view part.now)) }
+        ≡ string_bytes text.old ++ spec.part_text kept delimiter.now (part_view part.now)) }
 {
     match part {
         PageRangesPart::Ampersand => text.push_str(" & ")?,
@@ -149,7 +149,7 @@ fn pages_in_format(
     pages: &PageRanges,
 ) -> Result<String, Memory>
     ensures { IfOk result (λ s. string_bytes s
-        ≡ pages_in_format format delimiter.now (pages_view pages.now)) }
+        ≡ spec.pages_in_format format delimiter.now (pages_view pages.now)) }
 {
     let kept = kept_digits(format);
     let mut text = String::new(alloc);
@@ -163,7 +163,7 @@ fn pages_in_format(
 #[tactic(auto, unfolding(crate::specs::Pages::pages_in_style))]
 pub(crate) fn pages_in_style<T>(ctx: &Context<'_, T>, pages: &PageRanges) -> Result<String, Memory>
     ensures { IfOk result (λ s. string_bytes s
-        ≡ pages_in_style ctx.now.style (pages_view pages.now)) }
+        ≡ spec.pages_in_style ctx.now.style (pages_view pages.now)) }
 {
     let delimiter = Term::Other(OtherTerm::PageRangeDelimiter);
     let delimiter = ctx.term(delimiter, TermForm::Long, false).unwrap_or("–");
@@ -173,7 +173,7 @@ pub(crate) fn pages_in_style<T>(ctx: &Context<'_, T>, pages: &PageRanges) -> Res
 
 /// The text with an en dash for each hyphen.
 pub(crate) fn with_dashes(alloc: Global, text: &str) -> Result<String, Memory>
-    ensures { IfOk result (λ s. string_bytes s ≡ with_dashes text.now) }
+    ensures { IfOk result (λ s. string_bytes s ≡ spec.with_dashes text.now) }
 {
     let dashed = text
         .chars()

@@ -9,8 +9,7 @@ ghost use Rattle.csl_entry.specs.Answers.{cow_view};
 ghost use Rattle.csl_entry.specs.NumberResult.{number_or_page_view};
 ghost use Rattle.csl_context.specs.RenderInput.{peek_standard};
 ghost use Rattle.csl_context.specs.Context.{Runs, GivesBy, render_input};
-ghost use Rattle.csl_nodes.specs.Text.{resolved_text, resolved_info, number_result, variable_state};
-ghost use Rattle.csl_nodes.specs.Text.{resolved_view};
+ghost use Rattle.csl_nodes.specs.Text as spec;
 ghost use Rattle.csl_nodes.specs.Usage.{info_view};
 
 use crate::number_or_page::{peek_number_or_page, resolve_number_or_page};
@@ -55,8 +54,8 @@ fn resolved_number<'a>(
     variable: NumberOrPageVariable,
     answer: Option<NumberOrPageVariableResult<'a>>,
 ) -> Option<ResolvedText<'a>>
-    ensures { option_map resolved_view result
-        ≡ option_map (number_result variable) (option_map number_or_page_view answer.entry) }
+    ensures { option_map spec.resolved_view result
+        ≡ option_map (spec.number_result variable) (option_map number_or_page_view answer.entry) }
 {
     match answer {
         Some(answer) => Some(ResolvedText::NumberResult(variable, answer)),
@@ -70,8 +69,9 @@ pub(crate) fn peek_text<'s, T: EntryLike>(
     form: LongShortForm,
     variable: Variable,
 ) -> Result<Option<ResolvedText<'s>>, Memory>
-    ensures { GivesBy (option_map resolved_view) result
-        (resolved_text (render_input T.answers ctx.now) ctx.now.state (of_variable variable form)) }
+    ensures { GivesBy (option_map spec.resolved_view) result
+        (spec.resolved_text (render_input T.answers ctx.now) ctx.now.state (of_variable variable
+        form)) }
 {
     if !shows_variable(ctx.special_form(), variable) {
         return Ok(None);
@@ -99,10 +99,11 @@ pub(crate) fn resolve_text<'s, T: EntryLike>(
     form: LongShortForm,
     variable: Variable,
 ) -> Result<Option<ResolvedText<'s>>, RenderError>
-    ensures value { GivesBy (option_map resolved_view) result
-        (resolved_text (render_input T.answers ctx.old) ctx.old.state (of_variable variable form)) }
+    ensures value { GivesBy (option_map spec.resolved_view) result
+        (spec.resolved_text (render_input T.answers ctx.old) ctx.old.state (of_variable variable
+        form)) }
     ensures after { Runs (λ now. record now {
-      state = variable_state (render_input T.answers now) variable now.state;
+      state = spec.variable_state (render_input T.answers now) variable now.state;
     }) result ctx.old ctx.new }
 {
     ctx.ensure_live()?;
@@ -133,8 +134,9 @@ pub(crate) fn resolved_term<'s, T: EntryLike>(
     form: TermForm,
     plural: bool,
 ) -> Option<ResolvedText<'s>>
-    ensures { option_map resolved_view result
-        ≡ resolved_text (render_input T.answers ctx.now) ctx.now.state (of_term term form plural) }
+    ensures { option_map spec.resolved_view result
+        ≡ spec.resolved_text (render_input T.answers ctx.now) ctx.now.state (of_term term form
+        plural) }
 {
     if !shows_terms_and_values(ctx.special_form()) {
         return None;
@@ -150,8 +152,8 @@ pub(crate) fn resolved_value<'a, T: EntryLike>(
     ctx: &Context<'_, T>,
     value: &'a str,
 ) -> Option<ResolvedText<'a>>
-    ensures { option_map resolved_view result
-        ≡ resolved_text (render_input T.answers ctx.now) ctx.now.state (of_value value.now) }
+    ensures { option_map spec.resolved_view result
+        ≡ spec.resolved_text (render_input T.answers ctx.now) ctx.now.state (of_value value.now) }
 {
     if shows_terms_and_values(ctx.special_form()) {
         Some(ResolvedText::Value(value))
@@ -163,7 +165,8 @@ pub(crate) fn resolved_value<'a, T: EntryLike>(
 /// The dry run of a resolved text. `called` is whether a text that resolves to nothing calls its
 /// variable.
 pub(crate) fn resolved_info(called: bool, found: &Option<ResolvedText<'_>>) -> (bool, UsageInfo)
-    ensures { info_view result ≡ resolved_info called (option_map resolved_view found.now) }
+    ensures { info_view result
+        ≡ spec.resolved_info called (option_map spec.resolved_view found.now) }
 {
     match found {
         None => (false, UsageInfo::of_variable(called, false)),

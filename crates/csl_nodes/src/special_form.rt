@@ -2,14 +2,14 @@
 //! Definitions: specs/Text.antt.
 
 ghost use Rattle.std.specs.Prelude.{◌≡◌};
-ghost use Rattle.csl_nodes.specs.Text.{survives_only_forms, shows_variable, shows_terms_and_values, shows_macro_affixes};
+ghost use Rattle.csl_nodes.specs.Text as spec;
 
 use csl_entry::SpecialForm;
 use csl_style::{NumberVariable, StandardVariable, Variable};
 
 /// Whether the forms for the first date and the year suffix show a text of the variable.
 pub(crate) fn survives_only_forms(variable: Variable) -> bool
-    ensures { result ≡ survives_only_forms variable }
+    ensures { result ≡ spec.survives_only_forms variable }
 {
     match variable {
         Variable::Standard(variable) => variable == StandardVariable::YearSuffix,
@@ -22,7 +22,7 @@ pub(crate) fn survives_only_forms(variable: Variable) -> bool
 
 /// Whether the form shows a text of the variable.
 pub(crate) fn shows_variable(form: Option<SpecialForm>, variable: Variable) -> bool
-    ensures { result ≡ shows_variable form variable }
+    ensures { result ≡ spec.shows_variable form variable }
 {
     match form {
         None => true,
@@ -35,7 +35,7 @@ pub(crate) fn shows_variable(form: Option<SpecialForm>, variable: Variable) -> b
 
 /// Whether the form shows a text of a term or of a value.
 pub(crate) fn shows_terms_and_values(form: Option<SpecialForm>) -> bool
-    ensures { result ≡ shows_terms_and_values form }
+    ensures { result ≡ spec.shows_terms_and_values form }
 {
     match form {
         None => true,
@@ -48,7 +48,7 @@ pub(crate) fn shows_terms_and_values(form: Option<SpecialForm>) -> bool
 
 /// Whether the form shows the affixes of a text of a macro.
 pub fn shows_macro_affixes(form: Option<SpecialForm>) -> bool
-    ensures { result ≡ shows_macro_affixes form }
+    ensures { result ≡ spec.shows_macro_affixes form }
 {
     match form {
         None => true,

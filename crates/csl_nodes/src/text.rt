@@ -8,8 +8,7 @@ ghost use Rattle.csl_elements.specs.Node.{of_variable, of_term, of_value};
 ghost use Rattle.csl_elements.specs.View.{text_dressing};
 ghost use Rattle.csl_tree.specs.Tokens.{meta_of};
 ghost use Rattle.csl_context.specs.Context.{Runs, Gives, GivesBy, render_input};
-ghost use Rattle.csl_nodes.specs.Text.{Appends, standard_text, render_output, in_body, text_box, calls_variable, resolved_affixes, standard_meta, numeral_meta, resolved_meta, resolved_body, resolved_content, target_info, target_shows, text_output, with_output};
-ghost use Rattle.csl_nodes.specs.Text.{resolved_view};
+ghost use Rattle.csl_nodes.specs.Text as spec;
 ghost use Rattle.csl_nodes.specs.Usage.{info_view};
 
 use crate::dressing::{Body, render_body};
@@ -31,7 +30,7 @@ use std::alloc::Global;
 
 /// Whether a text calls the variable even if it resolves to nothing.
 fn calls_variable(variable: Variable) -> bool
-    ensures { result ≡ calls_variable variable }
+    ensures { result ≡ spec.calls_variable variable }
 {
     match variable {
         Variable::Standard(variable) => variable != StandardVariable::YearSuffix,
@@ -52,7 +51,8 @@ pub fn variable_info<'s, T: EntryLike>(
     form: LongShortForm,
     variable: Variable,
 ) -> Result<(bool, UsageInfo), Memory>
-    ensures { GivesBy info_view result (target_info (render_input T.answers ctx.now) ctx.now.state
+    ensures { GivesBy info_view result (spec.target_info (render_input T.answers ctx.now)
+        ctx.now.state
         (of_variable variable form)) }
 {
     let found = peek_text(ctx, form, variable)?;
@@ -70,7 +70,7 @@ pub fn variable_shows<'s, T: EntryLike>(
     asked: Variable,
 ) -> Result<bool, Memory>
     ensures { Gives result
-        (target_shows (render_input T.answers ctx.now)
+        (spec.target_shows (render_input T.answers ctx.now)
         ctx.now.state asked (of_variable variable form)) }
 {
     let found = peek_text(ctx, form, variable)?;
@@ -84,7 +84,7 @@ pub fn term_info<'s, T: EntryLike>(
     form: TermForm,
     plural: bool,
 ) -> (bool, UsageInfo)
-    ensures { info_view result ≡ target_info (render_input T.answers ctx.now) ctx.now.state
+    ensures { info_view result ≡ spec.target_info (render_input T.answers ctx.now) ctx.now.state
         (of_term term form plural) }
 {
     resolved_info(false, &resolved_term(ctx, term, form, plural))
@@ -92,7 +92,7 @@ pub fn term_info<'s, T: EntryLike>(
 
 /// The dry run of a text of a value.
 pub fn value_info<'s, T: EntryLike>(ctx: &Context<'s, T>, value: &str) -> (bool, UsageInfo)
-    ensures { info_view result ≡ target_info (render_input T.answers ctx.now) ctx.now.state
+    ensures { info_view result ≡ spec.target_info (render_input T.answers ctx.now) ctx.now.state
         (of_value value.now) }
 {
     resolved_info(false, &resolved_value(ctx, value))
@@ -106,7 +106,7 @@ pub fn render_variable<'s, T: EntryLike>(
     form: LongShortForm,
     variable: Variable,
 ) -> Result<(), RenderError>
-    ensures { Appends T.answers (λ w. text_output w
+    ensures { spec.Appends T.answers (λ w. spec.text_output w
         (of_variable variable form) (text_dressing text.now)) result ctx.old ctx.new }
 {
     match resolve_text(ctx, form, variable)? {
@@ -124,7 +124,7 @@ pub fn render_term<'s, T: EntryLike>(
     form: TermForm,
     plural: bool,
 ) -> Result<(), RenderError>
-    ensures { Appends T.answers (λ w. text_output w
+    ensures { spec.Appends T.answers (λ w. spec.text_output w
         (of_term term form plural) (text_dressing text.now)) result ctx.old ctx.new }
 {
     match resolved_term(ctx, term, form, plural) {
@@ -143,7 +143,8 @@ pub fn render_value<'s, T: EntryLike>(
     text: &Text,
     value: &str,
 ) -> Result<(), RenderError>
-    ensures { Appends T.answers (λ w. text_output w (of_value value.now) (text_dressing text.now))
+    ensures { spec.Appends T.answers (λ w. spec.text_output w (of_value value.now) (text_dressing
+        text.now))
         result ctx.old ctx.new }
 {
     match resolved_value(ctx, value) {
@@ -154,7 +155,7 @@ pub fn render_value<'s, T: EntryLike>(
 
 /// The meta of the box of a text of a standard variable.
 fn standard_meta(variable: StandardVariable) -> ElemMeta
-    ensures { meta_of result ≡ standard_meta variable }
+    ensures { meta_of result ≡ spec.standard_meta variable }
 {
     if variable == StandardVariable::CitationLabel {
         ElemMeta::CitationLabel
@@ -165,7 +166,7 @@ fn standard_meta(variable: StandardVariable) -> ElemMeta
 
 /// The meta of the box of a text of a number or page variable.
 fn numeral_meta(variable: NumberOrPageVariable) -> ElemMeta
-    ensures { meta_of result ≡ numeral_meta variable }
+    ensures { meta_of result ≡ spec.numeral_meta variable }
 {
     match variable {
         NumberOrPageVariable::Number(variable) => {
@@ -209,13 +210,14 @@ fn render_answer<'s, T: EntryLike>(
     variable: StandardVariable,
     found: &ChunkedString,
 ) -> Result<(), RenderError>
-    ensures { Runs (λ now. with_output (render_output (text_box now.style (resolved_affixes
-        (text_dressing text.now) (standard_text variable (chunks found.now)))
+    ensures { Runs (λ now. spec.with_output (spec.render_output (spec.text_box now.style
+        (spec.resolved_affixes
+        (text_dressing text.now) (spec.standard_text variable (chunks found.now)))
         (text_dressing text.now)
-        (resolved_meta (standard_text variable (chunks found.now))) now.inherited
-        (resolved_body now.style
-        (text_dressing text.now) (in_body (text_dressing text.now) now.inherited)
-        (standard_text variable (chunks found.now)))) now.state) now) result ctx.old ctx.new }
+        (spec.resolved_meta (spec.standard_text variable (chunks found.now))) now.inherited
+        (spec.resolved_body now.style
+        (text_dressing text.now) (spec.in_body (text_dressing text.now) now.inherited)
+        (spec.standard_text variable (chunks found.now)))) now.state) now) result ctx.old ctx.new }
 {
     let bare = Affixes::default();
     let begins = begins_link(text, variable);
@@ -238,8 +240,10 @@ pub(crate) fn render_found<'s, T: EntryLike>(
     text: &Text,
     found: &ResolvedText<'_>,
 ) -> Result<(), RenderError>
-    ensures { Runs (λ now. with_output (render_output (resolved_content (render_input T.answers now)
-        (text_dressing text.now) now.inherited (Some (resolved_view found.now))) now.state) now)
+    ensures { Runs (λ now. spec.with_output (spec.render_output (spec.resolved_content (render_input
+        T.answers now)
+        (text_dressing text.now) now.inherited (Some (spec.resolved_view found.now))) now.state)
+        now)
         result ctx.old ctx.new }
 {
     match found {

@@ -8,7 +8,7 @@ ghost use Rattle.csl_entry.specs.Alike.{Each};
 ghost use Rattle.csl_elements.specs.Node.{size, sizes};
 ghost use Rattle.csl_elements.specs.View.{view_nodes, view_branch, view_choose};
 ghost use Rattle.csl_context.specs.Context.{Reads, GivesBy, FailsSilently, render_input};
-ghost use Rattle.csl_nodes.specs.Condition.{all_if, chosen_children};
+ghost use Rattle.csl_nodes.specs.Condition as spec;
 ghost use Rattle.csl_render.specs.declared.plan.PlanItem.{PlanItem};
 ghost use Rattle.csl_render.specs.Expanded.{expanded, expanded_nodes, expanded_taken};
 ghost use Rattle.csl_render.specs.Plan.{DryView, HasTested, HasAllTested, AreInside, AreOfTaken};
@@ -35,7 +35,7 @@ fn first_taken<'a, 's, T: EntryLike>(
     ctx: &Context<'s, T>,
     choose: &'a Choose,
 ) -> Result<Option<&'a [LayoutRenderingElement]>, RenderError>
-    ensures value { GivesBy (option_map (λ ns. view_nodes ns.now)) result (chosen_children
+    ensures value { GivesBy (option_map (λ ns. view_nodes ns.now)) result (spec.chosen_children
         (render_input T.answers ctx.now) ctx.now.state (view_choose choose.now)) }
     ensures err { IfErr result (λ e. FailsSilently e ctx.now) }
 {
@@ -61,7 +61,7 @@ pub fn choose_children<'a, 's, T: EntryLike>(
     ctx: &mut Context<'s, T>,
 ) -> Result<Option<&'a [LayoutRenderingElement]>, RenderError>
     ensures { Reads (option_map (λ ns. view_nodes ns.now)) result
-        (chosen_children (render_input T.answers ctx.old)
+        (spec.chosen_children (render_input T.answers ctx.old)
         ctx.old.state (view_choose choose.now)) ctx.old ctx.new }
 {
     ctx.ensure_live()?;
@@ -77,7 +77,7 @@ fn chosen_children<'s, T: EntryLike>(
     ensures within { IfOk result (λ taken. IfSome taken (λ ns.
         sizes (expanded_nodes ctx.now.style (view_nodes ns.now))
         < size (expanded ctx.now.style (view_choose choose.now)))) }
-    ensures value { GivesBy (option_map (λ ns. view_nodes ns.now)) result (chosen_children
+    ensures value { GivesBy (option_map (λ ns. view_nodes ns.now)) result (spec.chosen_children
         (render_input T.answers ctx.now) ctx.now.state (view_choose choose.now)) }
     ensures shown { IfOk result (λ taken. (v : Variable) → shows (render_input T.answers ctx.now)
         ctx.now.state v (expanded ctx.now.style (view_choose choose.now))
@@ -101,7 +101,7 @@ fn chosen_children<'s, T: EntryLike>(
 
 /// The set with the variables of tests too, if there are any.
 fn with_tested(set: VariableSet, tests: &Option<Vec<Variable>>) -> VariableSet
-    ensures has { Each (Has result) (all_if (option_map (λ v. v.items) tests.now)) }
+    ensures has { Each (Has result) (spec.all_if (option_map (λ v. v.items) tests.now)) }
     ensures kept { IsWithin set result }
 {
     match tests {
@@ -113,7 +113,7 @@ fn with_tested(set: VariableSet, tests: &Option<Vec<Variable>>) -> VariableSet
 /// The set with the dates of tests too, if there are any.
 fn with_tested_dates(set: VariableSet, tests: &Option<Vec<DateVariable>>) -> VariableSet
     ensures has { Each (λ v. Has result (variable.Date v))
-        (all_if (option_map (λ v. v.items) tests.now)) }
+        (spec.all_if (option_map (λ v. v.items) tests.now)) }
     ensures kept { IsWithin set result }
 {
     match tests {

@@ -9,7 +9,7 @@ ghost use Rattle.csl_render.specs.DryRun.{Adds};
 ghost use Rattle.csl_render.specs.Expanded.{expanded, expanded_nodes};
 ghost use Rattle.csl_render.specs.Names.{Macros};
 ghost use Rattle.csl_render.specs.Plan.{dry_now, IsInfoOfNodes, IsDryRunOf, IsPlanOf, HasPlansOf};
-ghost use Rattle.csl_render.specs.Tree.{any_shows, is_group, node_output, nodes_output, delimited_output, delimited_child_output};
+ghost use Rattle.csl_render.specs.Tree as spec;
 ghost use Rattle.csl_render.specs.Render.{element_rendering, prints_in, after_child};
 ghost use Rattle.csl_nodes.specs.Text.{Appends};
 
@@ -58,7 +58,7 @@ impl RenderCsl for RenderingElement {
 
 /// Whether the node is a group.
 fn is_group(node: &LayoutRenderingElement) -> bool
-    ensures { (env : Macros) → result ≡ is_group (expand env (view_node node.now)) }
+    ensures { (env : Macros) → result ≡ spec.is_group (expand env (view_node node.now)) }
 {
     match node {
         LayoutRenderingElement::Text(_) => false,
@@ -150,7 +150,7 @@ pub(crate) fn any_shows<'c, 's, T: EntryLike>(
     nodes: &'s [LayoutRenderingElement],
     query: &mut Query<'c, 's, T>,
 ) -> Result<bool, Memory>
-    ensures value { Gives result (any_shows
+    ensures value { Gives result (spec.any_shows
         (render_input T.answers query.old.now) query.old.now.state query.old.variable
         (expanded_nodes query.old.now.style (view_nodes nodes.now))) }
     ensures kept { query.new ≡ query.old }
@@ -186,7 +186,7 @@ pub(crate) fn render_all<'p, 's, T: EntryLike>(
     plan: Option<&NodePlan<'p>>,
 ) -> Result<(), RenderError>
     requires { IfSome plan (λ p. HasPlansOf T.answers ctx.old (view_nodes nodes.now) p.now) }
-    ensures { Appends T.answers (λ w. nodes_output w
+    ensures { Appends T.answers (λ w. spec.nodes_output w
         (expanded_nodes w.style (view_nodes nodes.now))) result ctx.old ctx.new }
 {
     ctx.ensure_live()?;
@@ -207,7 +207,7 @@ pub(crate) fn render_with_delimiter<'p, 's, T: EntryLike>(
     plan: Option<&NodePlan<'p>>,
 ) -> Result<(), RenderError>
     requires { IfSome plan (λ p. HasPlansOf T.answers ctx.old (view_nodes nodes.now) p.now) }
-    ensures { Appends T.answers (λ w inherited. delimited_output w
+    ensures { Appends T.answers (λ w inherited. spec.delimited_output w
         (expanded_nodes w.style (view_nodes nodes.now)) inherited true) result ctx.old ctx.new }
 {
     ctx.ensure_live()?;
@@ -292,8 +292,8 @@ fn render_child<'p, 's, T: EntryLike>(
     plan: &NodePlan<'p>,
 ) -> Result<(), RenderError>
     requires { IsPlanOf T.answers ctx.old (view_node node.now) plan.now }
-    ensures { Appends T.answers (λ w inherited s. delimited_child_output first inherited
-        (node_output w (expanded w.style (view_node node.now)) inherited s))
+    ensures { Appends T.answers (λ w inherited s. spec.delimited_child_output first inherited
+        (spec.node_output w (expanded w.style (view_node node.now)) inherited s))
         result ctx.old ctx.new }
 {
     match ctx.delimiter() {

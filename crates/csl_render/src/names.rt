@@ -13,7 +13,7 @@ ghost use Rattle.csl_names.specs.NamesForms.{writes_no_name};
 ghost use Rattle.csl_names.specs.NamesLists.{all_empty, peeked_lists, list_of};
 ghost use Rattle.csl_render.specs.DryRun.{Adds};
 ghost use Rattle.csl_render.specs.Expanded.{expanded, expanded_substitutes};
-ghost use Rattle.csl_render.specs.Names.{Macros, author, has_variable, is_of_names, is_names_of, any_is_names_of, substitute_has_names_of, expanded_substitutes_of, refuses_alone, is_refused, names_show, names_or_substitute_info, in_substitute, suppressing_from, boxed_substitute};
+ghost use Rattle.csl_render.specs.Names as spec;
 ghost use Rattle.csl_nodes.specs.Text.{Appends, render_output};
 ghost use Rattle.csl_nodes.specs.Usage.{info_view, no_info};
 ghost use Rattle.csl_render.specs.Plan.{asks_for_author, dry_now, IsInfoOfSubstitutes, IsDryRunOf, TellsAuthorOf, IsPlanOf, HasPlansOf, HasPlansWithin};
@@ -77,14 +77,14 @@ fn summarize_names<'s, T: EntryLike>(
 
 /// Whether the variable is in the list.
 fn has_variable(wanted: NameVariable, variables: &[NameVariable]) -> bool
-    ensures { result ≡ has_variable wanted variables.now }
+    ensures { result ≡ spec.has_variable wanted variables.now }
 {
     variables.contains(&wanted)
 }
 
 /// Whether the variable is one of these name variables.
 fn is_of_names(variable: Variable, variables: &[NameVariable]) -> bool
-    ensures { result ≡ is_of_names variable variables.now }
+    ensures { result ≡ spec.is_of_names variable variables.now }
 {
     match variable {
         Variable::Standard(_) => false,
@@ -97,7 +97,7 @@ fn is_of_names(variable: Variable, variables: &[NameVariable]) -> bool
 
 /// The dry run of names that are not refused, from the dry run of their substitute.
 fn names_or_substitute_info(is_void: bool, inside: (bool, UsageInfo)) -> (bool, UsageInfo)
-    ensures { info_view result ≡ names_or_substitute_info is_void (info_view inside) }
+    ensures { info_view result ≡ spec.names_or_substitute_info is_void (info_view inside) }
 {
     let usage = UsageInfo {
         has_vars: true,
@@ -111,7 +111,7 @@ fn names_or_substitute_info(is_void: bool, inside: (bool, UsageInfo)) -> (bool, 
 /// The dry run of void names, from whether they are refused and the dry run of their substitute.
 fn void_info(refused: bool, inside: (bool, UsageInfo)) -> (bool, UsageInfo)
     ensures { info_view result ≡ (if refused then no_info
-        else names_or_substitute_info true (info_view inside)) }
+        else spec.names_or_substitute_info true (info_view inside)) }
 {
     if refused {
         return no_info();
@@ -133,7 +133,8 @@ fn substitute_children(names: &Names) -> Option<&[LayoutRenderingElement]>
 
 /// Whether the node is a `cs:names` of the variable.
 fn is_names_of(variable: NameVariable, node: &LayoutRenderingElement) -> bool
-    ensures { (env : Macros) → result ≡ is_names_of variable (expand env (view_node node.now)) }
+    ensures { (env : spec.Macros) → result
+        ≡ spec.is_names_of variable (expand env (view_node node.now)) }
 {
     match node {
         LayoutRenderingElement::Text(_) => false,
@@ -149,14 +150,15 @@ fn is_names_of(variable: NameVariable, node: &LayoutRenderingElement) -> bool
 /// Whether the variable is one of the names node's own.
 #[tactic(auto, using(crate::proofs::NamesOf::names_it_by))]
 fn names_have_variable(variable: NameVariable, names: &Names) -> bool
-    ensures { (env : Macros) → result ≡ is_names_of variable (expand env (view_names names.now)) }
+    ensures { (env : spec.Macros) → result
+        ≡ spec.is_names_of variable (expand env (view_names names.now)) }
 {
     has_variable(variable, names.parts().variables)
 }
 
 /// Whether any of the nodes is a `cs:names` of this variable.
 fn any_is_names_of(variable: NameVariable, nodes: &[LayoutRenderingElement]) -> bool
-    ensures { (env : Macros) → result ≡ any_is_names_of variable
+    ensures { (env : spec.Macros) → result ≡ spec.any_is_names_of variable
         (expand_nodes env (view_nodes nodes.now)) }
 {
     for node in nodes {
@@ -170,8 +172,8 @@ fn any_is_names_of(variable: NameVariable, nodes: &[LayoutRenderingElement]) -> 
 /// Whether the first substitute directly holds a `cs:names` of the variable.
 #[tactic(auto, using(crate::proofs::NamesOf::substitutes_by))]
 fn substitute_has_names_of(variable: NameVariable, names: &Names) -> bool
-    ensures { (env : Macros) → result ≡ substitute_has_names_of variable
-        (expanded_substitutes_of env names.now) }
+    ensures { (env : spec.Macros) → result ≡ spec.substitute_has_names_of variable
+        (spec.expanded_substitutes_of env names.now) }
 {
     match substitute_children(names) {
         Some(nodes) => any_is_names_of(variable, nodes),
@@ -181,9 +183,9 @@ fn substitute_has_names_of(variable: NameVariable, names: &Names) -> bool
 
 /// Whether the names are refused if the cite shows this variable alone.
 fn refuses_alone(only: Variable, names: &Names, is_empty: bool) -> bool
-    ensures { (env : Macros) → result
-        ≡ refuses_alone only (names_node names.now) is_empty
-        (expanded_substitutes_of env names.now) }
+    ensures { (env : spec.Macros) → result
+        ≡ spec.refuses_alone only (names_node names.now) is_empty
+        (spec.expanded_substitutes_of env names.now) }
 {
     match only {
         Variable::Standard(_) => true,
@@ -197,8 +199,10 @@ fn refuses_alone(only: Variable, names: &Names, is_empty: bool) -> bool
 /// Whether the names have the variable. If they have no persons, a `cs:names` directly in their
 /// substitute counts too.
 fn has_or_substitutes(variable: NameVariable, names: &Names, is_empty: bool) -> bool
-    ensures { (env : Macros) → result ≡ (has_variable variable (names_node names.now).variables
-        || (is_empty && substitute_has_names_of variable (expanded_substitutes_of env names.now))) }
+    ensures { (env : spec.Macros) → result
+        ≡ (spec.has_variable variable (names_node names.now).variables
+        || (is_empty && spec.substitute_has_names_of variable (spec.expanded_substitutes_of env
+        names.now))) }
 {
     if has_variable(variable, names.parts().variables) {
         return true;
@@ -250,7 +254,7 @@ fn shows_author<T>(
     substitute_shows: bool,
 ) -> bool
     ensures { asks_for_author ctx.now.special ≡ true
-        → result ≡ names_show author (names_node names.now) is_empty substitute_shows }
+        → result ≡ spec.names_show spec.author (names_node names.now) is_empty substitute_shows }
 {
     if !asks_for_author(ctx.special_form()) {
         return false;
@@ -261,7 +265,7 @@ fn shows_author<T>(
 /// Whether the special form of the cite refuses the names. `is_empty` is whether they have no
 /// persons, and `shows_author` whether they show the author.
 fn refuses<T>(ctx: &Context<'_, T>, names: &Names, is_empty: bool, shows_author: bool) -> bool
-    ensures { result ≡ is_refused ctx.now.special (names_node names.now) is_empty
+    ensures { result ≡ spec.is_refused ctx.now.special (names_node names.now) is_empty
         (expanded_substitutes ctx.now.style names.now) shows_author }
 {
     match ctx.special_form() {
@@ -332,7 +336,7 @@ fn names_or_substitute_show<'c, 's, T: EntryLike>(
     query: &mut Query<'c, 's, T>,
     is_empty: bool,
 ) -> Result<bool, Memory>
-    ensures value { Gives result (names_show query.old.variable
+    ensures value { Gives result (spec.names_show query.old.variable
         (names_node names.now) is_empty (substitute_shows (render_input T.answers query.old.now)
         query.old.now.state query.old.variable
         (expanded_substitutes query.old.now.style names.now))) }
@@ -444,7 +448,7 @@ fn render_lists<'p, 's, T: EntryLike>(
     ensures { Appends T.answers (λ w inherited s. names_output w (names_node names.now)
         (expanded_substitutes w.style names.now) inherited
         (substitute_output w (expanded_substitutes w.style names.now)
-        (in_substitute (names_node names.now) inherited) (suppressing_from s))
+        (spec.in_substitute (names_node names.now) inherited) (spec.suppressing_from s))
         (map list_of lists.now) s) result ctx.old ctx.new }
 {
     if refused {
@@ -466,9 +470,9 @@ fn render_substitute<'p, 's, T: EntryLike>(
     plan: Option<&NodePlan<'p>>,
 ) -> Result<(), RenderError>
     requires { IfSome plan (λ p. HasPlansWithin T.answers ctx.old names.now p.now) }
-    ensures { Appends T.answers (λ w inherited s. boxed_substitute (names_node names.now)
+    ensures { Appends T.answers (λ w inherited s. spec.boxed_substitute (names_node names.now)
         (map list_of lists.now) (substitute_output w (expanded_substitutes w.style names.now)
-        (in_substitute (names_node names.now) inherited) (suppressing_from s)) s)
+        (spec.in_substitute (names_node names.now) inherited) (spec.suppressing_from s)) s)
         result ctx.old ctx.new }
 {
     match substitute_children(names) {
@@ -488,10 +492,11 @@ fn render_first_substitute<'p, 's, T: EntryLike>(
     plan: Option<&NodePlan<'p>>,
 ) -> Result<(), RenderError>
     requires { IfSome plan (λ p. HasPlansOf T.answers ctx.old (view_nodes nodes.now) p.now) }
-    ensures { Appends T.answers (λ w inherited s. boxed_substitute (names_node names.now)
+    ensures { Appends T.answers (λ w inherited s. spec.boxed_substitute (names_node names.now)
         (map list_of lists.now) (output_until_text w
         (expand_substitute_nodes (macro_env w.style) (names_node names.now) (view_nodes nodes.now))
-        (in_substitute (names_node names.now) inherited) (render_output [] (suppressing_from s))) s)
+        (spec.in_substitute (names_node names.now) inherited) (render_output []
+        (spec.suppressing_from s))) s)
         result ctx.old ctx.new }
 {
     ctx.push_name_options(&names.options)?;
@@ -556,8 +561,9 @@ fn render_in_place<'p, 's, T: EntryLike>(
 /// Whether the special form of the cite refuses names of these parts, which have no substitute.
 #[tactic(auto, using(crate::proofs::NamesOf::unless_substituted))]
 fn refuses_shorthand<'s, T: EntryLike>(ctx: &Context<'s, T>, parts: NamesParts<'_>) -> bool
-    ensures { (is_empty : Bool) → result ≡ is_refused ctx.now.special (parts_node parts.entry)
-        is_empty no_expanded_substitutes (names_show author (parts_node parts.entry) is_empty false) }
+    ensures { (is_empty : Bool) → result ≡ spec.is_refused ctx.now.special (parts_node parts.entry)
+        is_empty no_expanded_substitutes (spec.names_show spec.author (parts_node parts.entry)
+        is_empty false) }
 {
     match ctx.special_form() {
         None => false,

@@ -7,7 +7,7 @@ ghost use Rattle.csl_elements.specs.Node.{ExpandedNode, ExpandedNodes, expanded_
 ghost use Rattle.csl_elements.specs.VariableSet.{has};
 ghost use Rattle.csl_context.specs.Context.{render_input};
 ghost use Rattle.csl_nodes.specs.Usage.{info_view, info_union, as_child_info, usage_flags_of};
-ghost use Rattle.csl_render.specs.Plan.{asks_for_dates, dry_now, dry_view, AreAlikeOn, answer_of, IsPlan, ArePlans};
+ghost use Rattle.csl_render.specs.Plan as spec;
 
 use csl_context::Context;
 use csl_entry::{EntryLike, SpecialForm};
@@ -28,7 +28,7 @@ pub(crate) struct NodeInfo {
 impl NodeInfo {
     /// The result for a node that does not show the author, with the variables that were read.
     pub(crate) fn new(answer: (bool, UsageInfo), read: VariableSet) -> NodeInfo
-        ensures answer { answer_of result ≡ info_view answer }
+        ensures answer { spec.answer_of result ≡ info_view answer }
         ensures read { result.read ≡ read }
         ensures author { result.shows_author ≡ false }
     {
@@ -41,7 +41,7 @@ impl NodeInfo {
 
     /// The result with another answer.
     pub(crate) fn with_answer(self, answer: (bool, UsageInfo)) -> NodeInfo
-        ensures answer { answer_of result ≡ info_view answer }
+        ensures answer { spec.answer_of result ≡ info_view answer }
         ensures read { result.read ≡ self.read }
         ensures author { result.shows_author ≡ self.shows_author }
     {
@@ -54,7 +54,7 @@ impl NodeInfo {
 
     /// The result for a node that shows the author or not.
     pub(crate) fn with_author(self, shows_author: bool) -> NodeInfo
-        ensures answer { answer_of result ≡ answer_of self }
+        ensures answer { spec.answer_of result ≡ spec.answer_of self }
         ensures read { result.read ≡ self.read }
         ensures author { result.shows_author ≡ shows_author }
     {
@@ -67,8 +67,8 @@ impl NodeInfo {
 
     /// The result for nodes together with one more child.
     pub(crate) fn with_child(self, child: NodeInfo, is_group: bool) -> NodeInfo
-        ensures answer { answer_of result
-            ≡ info_union (answer_of self) (as_child_info is_group (answer_of child)) }
+        ensures answer { spec.answer_of result
+            ≡ info_union (spec.answer_of self) (as_child_info is_group (spec.answer_of child)) }
         ensures read { (v : Variable) → has result.read v ≡ (has self.read v || has child.read v) }
         ensures author { result.shows_author ≡ (self.shows_author || child.shows_author) }
     {
@@ -102,7 +102,7 @@ pub(crate) struct DryState {
 
 /// Whether dry runs under the special form ask if a date was rendered.
 fn asks_for_dates(special: Option<SpecialForm>) -> bool
-    ensures { result ≡ asks_for_dates special }
+    ensures { result ≡ spec.asks_for_dates special }
 {
     match special {
         None => false,
@@ -116,7 +116,7 @@ fn asks_for_dates(special: Option<SpecialForm>) -> bool
 /// Whether a date was rendered, if dry runs in the context ask.
 #[tactic(auto, using(crate::proofs::Reading::double_not))]
 fn date_seen<'s, T: EntryLike>(ctx: &Context<'s, T>) -> bool
-    ensures { result ≡ (dry_now ctx.now).first_date_seen }
+    ensures { result ≡ (spec.dry_now ctx.now).first_date_seen }
 {
     asks_for_dates(ctx.special_form()) && !ctx.peek_is_first_date()
 }
@@ -124,7 +124,7 @@ fn date_seen<'s, T: EntryLike>(ctx: &Context<'s, T>) -> bool
 impl DryState {
     /// The part of the context's state that dry runs read.
     pub(crate) fn of<'s, T: EntryLike>(ctx: &Context<'s, T>) -> DryState
-        ensures { dry_view result ≡ dry_now ctx.now }
+        ensures { spec.dry_view result ≡ spec.dry_now ctx.now }
     {
         DryState {
             suppressed: ctx.suppressed(),
@@ -135,8 +135,8 @@ impl DryState {
     /// Whether dry runs that read these variables read the same of the context as of this state.
     #[inline(never)]
     pub(crate) fn is_alike<'s, T: EntryLike>(&self, read: VariableSet, ctx: &Context<'s, T>) -> bool
-        ensures { IsTrue result ↔ AreAlikeOn
-            (render_input T.answers ctx.now) read (dry_view self.now) ctx.now.state }
+        ensures { IsTrue result ↔ spec.AreAlikeOn
+            (render_input T.answers ctx.now) read (spec.dry_view self.now) ctx.now.state }
     {
         let now = DryState::of(ctx);
         self.first_date_seen == now.first_date_seen
@@ -233,11 +233,11 @@ impl<'p> ListPlan<'p> {
     /// if there is no result for the first node, or if the plan does not hold for the context.
     pub(crate) fn next<'s, T: EntryLike>(&mut self, ctx: &Context<'s, T>) -> Option<NodePlan<'p>>
         ensures next { (f : ExpandedNode) → (fs : ExpandedNodes)
-            → ArePlans (render_input T.answers ctx.now) (expanded_node f fs) self.old
-            → IfSome result (IsPlan (render_input T.answers ctx.now) ctx.now.state f) }
+            → spec.ArePlans (render_input T.answers ctx.now) (expanded_node f fs) self.old
+            → IfSome result (spec.IsPlan (render_input T.answers ctx.now) ctx.now.state f) }
         ensures rest { (f : ExpandedNode) → (fs : ExpandedNodes)
-            → ArePlans (render_input T.answers ctx.now) (expanded_node f fs) self.old
-            → ArePlans (render_input T.answers ctx.now) fs self.new }
+            → spec.ArePlans (render_input T.answers ctx.now) (expanded_node f fs) self.old
+            → spec.ArePlans (render_input T.answers ctx.now) fs self.new }
     {
         let (first, rest) = self.items.split_first()?;
         let (inside, after) = rest.split_at_checked(first.inside)?;
@@ -263,11 +263,11 @@ pub(crate) fn next_plan<'p, 's, T: EntryLike>(
     plan: &mut Option<ListPlan<'p>>,
 ) -> Option<NodePlan<'p>>
     ensures next { (f : ExpandedNode) → (fs : ExpandedNodes)
-        → IfSome plan.old (ArePlans (render_input T.answers ctx.now) (expanded_node f fs))
-        → IfSome result (IsPlan (render_input T.answers ctx.now) ctx.now.state f) }
+        → IfSome plan.old (spec.ArePlans (render_input T.answers ctx.now) (expanded_node f fs))
+        → IfSome result (spec.IsPlan (render_input T.answers ctx.now) ctx.now.state f) }
     ensures rest { (f : ExpandedNode) → (fs : ExpandedNodes)
-        → IfSome plan.old (ArePlans (render_input T.answers ctx.now) (expanded_node f fs))
-        → IfSome plan.new (ArePlans (render_input T.answers ctx.now) fs) }
+        → IfSome plan.old (spec.ArePlans (render_input T.answers ctx.now) (expanded_node f fs))
+        → IfSome plan.new (spec.ArePlans (render_input T.answers ctx.now) fs) }
 {
     match plan {
         Some(plan) => plan.next(ctx),

@@ -2,9 +2,7 @@
 
 ghost use Rattle.std.specs.Prelude.{◌≡◌, ◌++◌, IfOk, map};
 ghost use Rattle.csl_elements.specs.Locale.{term_view, ordinal_view};
-ghost use Rattle.csl_samples.specs.English.{IsEnglish, word_of_row, ordinal_of_row};
-ghost use Rattle.csl_samples.specs.English.{english_words, english_counted, english_ordinals};
-ghost use Rattle.csl_samples.specs.English.{ordinal};
+ghost use Rattle.csl_samples.specs.English as spec;
 
 use csl_style::{
     Locale, NumberVariable, OrdinalSlot, OrdinalTerm, OtherTerm, PageVariable, Term, TermEntry,
@@ -47,20 +45,20 @@ static ORDINALS: [(OrdinalSlot, &str); 7] = [
 ];
 
 fn word_rows() -> &'static [(OtherTerm, &'static str)]
-    ensures { map word_of_row result.now ≡ english_words }
+    ensures { map spec.word_of_row result.now ≡ spec.english_words }
 {
     &WORDS
 }
 
 fn ordinal_rows() -> &'static [(OrdinalSlot, &'static str)]
-    ensures { map ordinal_of_row result.now ≡ english_ordinals }
+    ensures { map spec.ordinal_of_row result.now ≡ spec.english_ordinals }
 {
     &ORDINALS
 }
 
 /// The term entries of [`WORDS`].
 fn words(alloc: Global) -> Result<Vec<TermEntry>, Memory>
-    ensures { IfOk result (λ made. map term_view made.items ≡ english_words) }
+    ensures { IfOk result (λ made. map term_view made.items ≡ spec.english_words) }
 {
     let mut terms = Vec::new(alloc);
     for row in word_rows() {
@@ -72,7 +70,7 @@ fn words(alloc: Global) -> Result<Vec<TermEntry>, Memory>
 
 /// The terms for pages and volumes, for one and for several, in the long and the short form.
 fn counted_terms(alloc: Global) -> Result<Vec<TermEntry>, Memory>
-    ensures { IfOk result (λ made. map term_view made.items ≡ english_counted) }
+    ensures { IfOk result (λ made. map term_view made.items ≡ spec.english_counted) }
 {
     let page = Term::Page(PageVariable::Page);
     let volume = Term::Number(NumberVariable::Volume);
@@ -85,7 +83,8 @@ fn counted_terms(alloc: Global) -> Result<Vec<TermEntry>, Memory>
 }
 
 fn terms(alloc: Global) -> Result<Vec<TermEntry>, Memory>
-    ensures { IfOk result (λ made. map term_view made.items ≡ english_words ++ english_counted) }
+    ensures { IfOk result (λ made. map term_view made.items
+        ≡ spec.english_words ++ spec.english_counted) }
 {
     let mut terms = words(alloc)?;
     let mut counted = counted_terms(alloc)?;
@@ -95,7 +94,7 @@ fn terms(alloc: Global) -> Result<Vec<TermEntry>, Memory>
 
 /// An ordinal without a gender.
 fn ordinal(alloc: Global, slot: OrdinalSlot, text: &str) -> Result<OrdinalTerm, Memory>
-    ensures { IfOk result (λ made. ordinal_view made ≡ ordinal slot text.now) }
+    ensures { IfOk result (λ made. ordinal_view made ≡ spec.ordinal slot text.now) }
 {
     Ok(OrdinalTerm {
         slot,
@@ -106,7 +105,7 @@ fn ordinal(alloc: Global, slot: OrdinalSlot, text: &str) -> Result<OrdinalTerm, 
 }
 
 fn ordinals(alloc: Global) -> Result<Vec<OrdinalTerm>, Memory>
-    ensures { IfOk result (λ made. map ordinal_view made.items ≡ english_ordinals) }
+    ensures { IfOk result (λ made. map ordinal_view made.items ≡ spec.english_ordinals) }
 {
     let mut ordinals = Vec::new(alloc);
     for row in ordinal_rows() {
@@ -117,7 +116,7 @@ fn ordinals(alloc: Global) -> Result<Vec<OrdinalTerm>, Memory>
 
 /// The English locale of the built-in styles.
 pub fn english(alloc: Global) -> Result<Locale, Memory>
-    ensures { IfOk result IsEnglish }
+    ensures { IfOk result spec.IsEnglish }
 {
     Ok(Locale {
         terms: terms(alloc)?,

@@ -3,9 +3,7 @@
 ghost use Rattle.std.specs.Prelude.{◌≡◌, ◌∷◌, [], Some, None, Err, IfOk, map, codes};
 ghost use Rattle.lit_model.specs.Person.{person_view, person_of};
 ghost use Rattle.lit_model.specs.Source.{serials, address_of};
-ghost use Rattle.csl_samples.specs.Entries.{IsBuiltIn, StandsAlone, named_built_in, only_title};
-ghost use Rattle.csl_samples.specs.Entries.{nuovo_cimento, transactions, dependence};
-ghost use Rattle.csl_samples.specs.Entries.{address_from, essay_address, essay_text};
+ghost use Rattle.csl_samples.specs.Entries as spec;
 ghost use Rattle.csl_samples.specs.declared.entries.AddressError.TheVariants as errors;
 
 use lit_model::{
@@ -32,7 +30,7 @@ pub enum BuiltIn {
 impl BuiltIn {
     /// The built-in entry with this key, if there is one.
     pub fn of_key(key: &str) -> Option<BuiltIn>
-        ensures { result ≡ named_built_in key.now }
+        ensures { result ≡ spec.named_built_in key.now }
     {
         match key {
             "crazy-rich" => Some(BuiltIn::CrazyRich),
@@ -45,7 +43,7 @@ impl BuiltIn {
 
     /// The built-in entry as an [`Entry`].
     pub fn entry(self, alloc: Global) -> Result<Entry, Memory>
-        ensures { IfOk result (IsBuiltIn self) }
+        ensures { IfOk result (spec.IsBuiltIn self) }
     {
         match self {
             BuiltIn::CrazyRich => crazy_rich(alloc),
@@ -87,8 +85,8 @@ enum AddressError {
 /// Parses a text as an address.
 #[tactic(auto, unfolding(crate::specs::Entries::address_from))]
 fn address(alloc: Global, text: &str) -> Result<QualifiedUrl, AddressError>
-    ensures ok { IfOk result (λ url. Some (address_of url) ≡ address_from text.now) }
-    ensures refused { result ≡ Err errors.NotAddress → address_from text.now ≡ None }
+    ensures ok { IfOk result (λ url. Some (address_of url) ≡ spec.address_from text.now) }
+    ensures refused { result ≡ Err errors.NotAddress → spec.address_from text.now ≡ None }
 {
     match Url::parse(alloc, text) {
         Ok(value) => Ok(QualifiedUrl {
@@ -103,7 +101,7 @@ fn address(alloc: Global, text: &str) -> Result<QualifiedUrl, AddressError>
 
 /// The book `Crazy Rich Asians`.
 fn crazy_rich(alloc: Global) -> Result<Entry, Memory>
-    ensures { IfOk result (IsBuiltIn BuiltIn.CrazyRich) }
+    ensures { IfOk result (spec.IsBuiltIn BuiltIn.CrazyRich) }
 {
     let title = FormatString::plain(alloc, "Crazy Rich Asians")?;
     let authors = one_person(alloc, "Kwan", "Kevin")?;
@@ -123,7 +121,7 @@ fn crazy_rich(alloc: Global) -> Result<Entry, Memory>
 
 /// A parent, such as a periodical or a blog, with this title and without a key.
 fn parent(alloc: Global, entry_type: EntryType, title: &str) -> Result<Entry, Memory>
-    ensures { IfOk result (StandsAlone (only_title entry_type title.now)) }
+    ensures { IfOk result (spec.StandsAlone (spec.only_title entry_type title.now)) }
 {
     let title = FormatString::plain(alloc, title)?;
     let mut parent = Entry::new(alloc, "", entry_type)?;
@@ -133,7 +131,7 @@ fn parent(alloc: Global, entry_type: EntryType, title: &str) -> Result<Entry, Me
 
 /// The journal `Il Nuovo Cimento`.
 fn nuovo_cimento(alloc: Global) -> Result<Entry, Memory>
-    ensures { IfOk result (StandsAlone nuovo_cimento) }
+    ensures { IfOk result (spec.StandsAlone spec.nuovo_cimento) }
 {
     let mut journal = parent(alloc, EntryType::Periodical, "Il Nuovo Cimento")?;
     journal.issue = Some(MaybeTyped::Typed(Numeric::new(3)));
@@ -143,7 +141,7 @@ fn nuovo_cimento(alloc: Global) -> Result<Entry, Memory>
 
 /// The article `Structure of a Quantized Vortex in Boson Systems`.
 fn quantized_vortex(alloc: Global) -> Result<Entry, Memory>
-    ensures { IfOk result (IsBuiltIn BuiltIn.QuantizedVortex) }
+    ensures { IfOk result (spec.IsBuiltIn BuiltIn.QuantizedVortex) }
 {
     let title = FormatString::plain(alloc, "Structure of a Quantized Vortex in Boson Systems")?;
     let authors = one_person(alloc, "Gross", "E. P.")?;
@@ -164,7 +162,7 @@ fn quantized_vortex(alloc: Global) -> Result<Entry, Memory>
 
 /// The journal `ACM Transactions on Programming Languages and Systems`.
 fn transactions(alloc: Global) -> Result<Entry, Memory>
-    ensures { IfOk result (StandsAlone transactions) }
+    ensures { IfOk result (spec.StandsAlone spec.transactions) }
 {
     let title = "ACM Transactions on Programming Languages and Systems";
     let mut journal = parent(alloc, EntryType::Periodical, title)?;
@@ -175,7 +173,7 @@ fn transactions(alloc: Global) -> Result<Entry, Memory>
 
 /// The authors of the article on dependence graphs.
 fn dependence_authors(alloc: Global) -> Result<Vec<Person>, Memory>
-    ensures { IfOk result (λ v. Some (map person_view v.items) ≡ dependence.authors) }
+    ensures { IfOk result (λ v. Some (map person_view v.items) ≡ spec.dependence.authors) }
 {
     let ferrante = Person::new(alloc, "Ferrante", "Jeanne")?;
     let ottenstein = Person::new(alloc, "Ottenstein", "Karl J.")?;
@@ -186,7 +184,7 @@ fn dependence_authors(alloc: Global) -> Result<Vec<Person>, Memory>
 
 /// The article `The program dependence graph and its use in optimization`.
 fn dependence(alloc: Global) -> Result<Entry, Memory>
-    ensures { IfOk result (IsBuiltIn BuiltIn.Dependence) }
+    ensures { IfOk result (spec.IsBuiltIn BuiltIn.Dependence) }
 {
     let title = "The program dependence graph and its use in optimization";
     let title = FormatString::plain(alloc, title)?;
@@ -206,7 +204,7 @@ fn dependence(alloc: Global) -> Result<Entry, Memory>
 /// The text of the essay's address.
 #[tactic(auto, unfolding(crate::specs::Entries::essay_text))]
 fn essay_text() -> &'static str
-    ensures { result.now ≡ essay_text }
+    ensures { result.now ≡ spec.essay_text }
 {
     "https://aeon.co/essays/can-you-enjoy-romance-fiction-and-be-a-feminist"
 }
@@ -214,7 +212,7 @@ fn essay_text() -> &'static str
 /// The address of the essay. The parser accepts its text.
 #[tactic(auto, using(crate::proofs::Essay::essay_is_address))]
 fn essay_address(alloc: Global) -> Result<QualifiedUrl, Memory>
-    ensures { IfOk result (λ url. Some (address_of url) ≡ essay_address) }
+    ensures { IfOk result (λ url. Some (address_of url) ≡ spec.essay_address) }
 {
     match address(alloc, essay_text()) {
         Ok(url) => Ok(url),
@@ -225,7 +223,7 @@ fn essay_address(alloc: Global) -> Result<QualifiedUrl, Memory>
 
 /// The article `She swoons to conquer`.
 fn feminism(alloc: Global) -> Result<Entry, Memory>
-    ensures { IfOk result (IsBuiltIn BuiltIn.Feminism) }
+    ensures { IfOk result (spec.IsBuiltIn BuiltIn.Feminism) }
 {
     let title = FormatString::plain(alloc, "She swoons to conquer")?;
     let authors = one_person(alloc, "Ungard-Sargon", "Batya")?;

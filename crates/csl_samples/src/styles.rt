@@ -5,13 +5,7 @@ ghost use Rattle.csl_elements.specs.NamesOptions.{partial_options};
 ghost use Rattle.csl_elements.specs.Node.{node, no_nodes};
 ghost use Rattle.csl_elements.specs.View.{view_node, view_child, view_layout, view_nodes};
 ghost use Rattle.csl_elements.specs.View.{a_name, a_substitute};
-ghost use Rattle.csl_samples.specs.Styles.{IsBuiltInStyle, named_style};
-ghost use Rattle.csl_samples.specs.Styles.{built_in_layout, elements_of};
-ghost use Rattle.csl_samples.specs.Styles.{space_group, joined_by_and, name_by, persons_by};
-ghost use Rattle.csl_samples.specs.Styles.{short_authors, year, author_date};
-ghost use Rattle.csl_samples.specs.Styles.{editors, authors, quoted_title, container_title};
-ghost use Rattle.csl_samples.specs.Styles.{volume, page, month_and_year};
-ghost use Rattle.csl_samples.specs.Styles.{description_elements, description, link, address};
+ghost use Rattle.csl_samples.specs.Styles as spec;
 
 use crate::english::english;
 use csl_style::{
@@ -35,7 +29,7 @@ pub enum BuiltInStyle {
 impl BuiltInStyle {
     /// The built-in style with this name, if there is one.
     pub fn of_name(name: &str) -> Option<BuiltInStyle>
-        ensures { result ≡ named_style name.now }
+        ensures { result ≡ spec.named_style name.now }
     {
         match name {
             "author-date" => Some(BuiltInStyle::AuthorDate),
@@ -46,7 +40,7 @@ impl BuiltInStyle {
 
     /// The style. It has a citation layout, default settings, the English locale, and no macros.
     pub fn style(self, alloc: Global) -> Result<Style, Memory>
-        ensures { IfOk result (IsBuiltInStyle self) }
+        ensures { IfOk result (spec.IsBuiltInStyle self) }
     {
         let citation = layout(alloc, self)?;
         let locale = english(alloc)?;
@@ -68,7 +62,7 @@ fn space_group(
     first: LayoutRenderingElement,
     second: LayoutRenderingElement,
 ) -> Result<LayoutRenderingElement, Memory>
-    ensures { IfOk result (λ made. view_node made ≡ space_group (view_node first)
+    ensures { IfOk result (λ made. view_node made ≡ spec.space_group (view_node first)
         (view_node second)) }
 {
     let children = vec![in alloc; first, second]?;
@@ -77,7 +71,7 @@ fn space_group(
 
 /// Name options with the word `and` before the last name, and with this form and order.
 fn joined_by_and(form: Option<NameForm>, order: Option<NameAsSortOrder>) -> InheritableNameOptions
-    ensures { partial_options result ≡ joined_by_and form order }
+    ensures { partial_options result ≡ spec.joined_by_and form order }
 {
     InheritableNameOptions {
         and: Some(NameAnd::Text),
@@ -89,7 +83,7 @@ fn joined_by_and(form: Option<NameForm>, order: Option<NameAsSortOrder>) -> Inhe
 
 /// A `cs:name` with only these options.
 fn name_by(alloc: Global, options: InheritableNameOptions) -> NamesChild
-    ensures { view_child result ≡ a_name (name_by (partial_options options)) }
+    ensures { view_child result ≡ a_name (spec.name_by (partial_options options)) }
 {
     Name {
         options,
@@ -106,7 +100,7 @@ fn persons_by(
     children: Vec<NamesChild>,
 ) -> Result<LayoutRenderingElement, Memory>
     ensures { IfOk result (λ made. view_node made
-        ≡ persons_by variable (map view_child children.items)) }
+        ≡ spec.persons_by variable (map view_child children.items)) }
 {
     let variables = vec![in alloc; variable]?;
     Ok(Names {
@@ -118,7 +112,7 @@ fn persons_by(
 
 /// The authors' family names.
 fn short_authors(alloc: Global) -> Result<LayoutRenderingElement, Memory>
-    ensures { IfOk result (λ made. view_node made ≡ short_authors) }
+    ensures { IfOk result (λ made. view_node made ≡ spec.short_authors) }
 {
     let name = name_by(alloc, joined_by_and(Some(NameForm::Short), None));
     let children = vec![in alloc; name]?;
@@ -127,7 +121,7 @@ fn short_authors(alloc: Global) -> Result<LayoutRenderingElement, Memory>
 
 /// The year of issue.
 fn year(alloc: Global) -> Result<LayoutRenderingElement, Memory>
-    ensures { IfOk result (λ made. view_node made ≡ year) }
+    ensures { IfOk result (λ made. view_node made ≡ spec.year) }
 {
     let parts = vec![in alloc; DatePart::new(DatePartName::Year)]?;
     Ok(Date::new(DateVariable::Issued, parts).into())
@@ -136,7 +130,7 @@ fn year(alloc: Global) -> Result<LayoutRenderingElement, Memory>
 /// The authors and the year in parentheses.
 #[tactic(auto, using(csl_elements::proofs::Rolled::group_made))]
 fn author_date(alloc: Global) -> Result<LayoutRenderingElement, Memory>
-    ensures { IfOk result (λ made. view_node made ≡ author_date) }
+    ensures { IfOk result (λ made. view_node made ≡ spec.author_date) }
 {
     let authors = short_authors(alloc)?;
     let year = year(alloc)?;
@@ -151,14 +145,14 @@ fn author_date(alloc: Global) -> Result<LayoutRenderingElement, Memory>
 
 /// The editors. As a substitute, they are written like the names that they replace.
 fn editors(alloc: Global) -> Result<LayoutRenderingElement, Memory>
-    ensures { IfOk result (λ made. view_node made ≡ editors) }
+    ensures { IfOk result (λ made. view_node made ≡ spec.editors) }
 {
     persons_by(alloc, NameVariable::Editor, Vec::new(alloc))
 }
 
 /// The substitute of the authors: the editors.
 fn instead_of_authors(alloc: Global) -> Result<NamesChild, Memory>
-    ensures { IfOk result (λ made. view_child made ≡ a_substitute (node editors no_nodes)) }
+    ensures { IfOk result (λ made. view_child made ≡ a_substitute (node spec.editors no_nodes)) }
 {
     let editors = editors(alloc)?;
     let children = vec![in alloc; editors]?;
@@ -167,7 +161,7 @@ fn instead_of_authors(alloc: Global) -> Result<NamesChild, Memory>
 
 /// The authors, the first with the family name first. The editors are their substitute.
 fn authors(alloc: Global) -> Result<LayoutRenderingElement, Memory>
-    ensures { IfOk result (λ made. view_node made ≡ authors) }
+    ensures { IfOk result (λ made. view_node made ≡ spec.authors) }
 {
     let instead = instead_of_authors(alloc)?;
     let name = name_by(alloc, joined_by_and(None, Some(NameAsSortOrder::First)));
@@ -177,7 +171,7 @@ fn authors(alloc: Global) -> Result<LayoutRenderingElement, Memory>
 
 /// The title in quotes.
 fn quoted_title() -> LayoutRenderingElement
-    ensures { view_node result ≡ quoted_title }
+    ensures { view_node result ≡ spec.quoted_title }
 {
     let title = Variable::Standard(StandardVariable::Title);
     Text {
@@ -189,7 +183,7 @@ fn quoted_title() -> LayoutRenderingElement
 
 /// The title of the container in italics.
 fn container_title() -> LayoutRenderingElement
-    ensures { view_node result ≡ container_title }
+    ensures { view_node result ≡ spec.container_title }
 {
     let title = Variable::Standard(StandardVariable::ContainerTitle);
     Text {
@@ -201,7 +195,7 @@ fn container_title() -> LayoutRenderingElement
 
 /// The volume with its label.
 fn volume(alloc: Global) -> Result<LayoutRenderingElement, Memory>
-    ensures { IfOk result (λ made. view_node made ≡ volume) }
+    ensures { IfOk result (λ made. view_node made ≡ spec.volume) }
 {
     let volume = NumberOrPageVariable::Number(NumberVariable::Volume);
     let label = Label::short(volume).into();
@@ -210,7 +204,7 @@ fn volume(alloc: Global) -> Result<LayoutRenderingElement, Memory>
 
 /// The pages with their label.
 fn page(alloc: Global) -> Result<LayoutRenderingElement, Memory>
-    ensures { IfOk result (λ made. view_node made ≡ page) }
+    ensures { IfOk result (λ made. view_node made ≡ spec.page) }
 {
     let label = Label::short(NumberOrPageVariable::Page(PageVariable::Page)).into();
     let pages = Text::variable(Variable::Page(PageVariable::Page)).into();
@@ -219,7 +213,7 @@ fn page(alloc: Global) -> Result<LayoutRenderingElement, Memory>
 
 /// The month and the year of issue.
 fn month_and_year(alloc: Global) -> Result<LayoutRenderingElement, Memory>
-    ensures { IfOk result (λ made. view_node made ≡ month_and_year) }
+    ensures { IfOk result (λ made. view_node made ≡ spec.month_and_year) }
 {
     let month = DatePart {
         form: Some(DateAnyForm::Long),
@@ -236,7 +230,7 @@ fn month_and_year(alloc: Global) -> Result<LayoutRenderingElement, Memory>
 
 /// The elements of a work's description, in order.
 fn description_elements(alloc: Global) -> Result<Vec<LayoutRenderingElement>, Memory>
-    ensures { IfOk result (λ made. view_nodes made.items ≡ description_elements) }
+    ensures { IfOk result (λ made. view_nodes made.items ≡ spec.description_elements) }
 {
     let authors = authors(alloc)?;
     let volume = volume(alloc)?;
@@ -255,7 +249,7 @@ fn description_elements(alloc: Global) -> Result<Vec<LayoutRenderingElement>, Me
 /// The description of a work, with a period at its end.
 #[tactic(auto, using(csl_elements::proofs::Rolled::group_made))]
 fn description(alloc: Global) -> Result<LayoutRenderingElement, Memory>
-    ensures { IfOk result (λ made. view_node made ≡ description) }
+    ensures { IfOk result (λ made. view_node made ≡ spec.description) }
 {
     let children = description_elements(alloc)?;
     let affixes = Affixes::after(alloc, ".")?;
@@ -268,7 +262,7 @@ fn description(alloc: Global) -> Result<LayoutRenderingElement, Memory>
 
 /// The digital object identifier after the address of its resolver.
 fn link(alloc: Global) -> Result<LayoutRenderingElement, Memory>
-    ensures { IfOk result (λ made. view_node made ≡ link) }
+    ensures { IfOk result (λ made. view_node made ≡ spec.link) }
 {
     let affixes = Affixes::before(alloc, "https://doi.org/")?;
     Ok(Text {
@@ -281,7 +275,7 @@ fn link(alloc: Global) -> Result<LayoutRenderingElement, Memory>
 /// The resolver's address and the digital object identifier, after a space.
 #[tactic(auto, using(csl_elements::proofs::Rolled::group_made))]
 fn address(alloc: Global) -> Result<LayoutRenderingElement, Memory>
-    ensures { IfOk result (λ made. view_node made ≡ address) }
+    ensures { IfOk result (λ made. view_node made ≡ spec.address) }
 {
     let link = link(alloc)?;
     let children = vec![in alloc; link]?;
@@ -295,7 +289,7 @@ fn address(alloc: Global) -> Result<LayoutRenderingElement, Memory>
 
 /// The elements of a style's layout, in order.
 fn elements(alloc: Global, style: BuiltInStyle) -> Result<Vec<LayoutRenderingElement>, Memory>
-    ensures { IfOk result (λ made. view_nodes made.items ≡ elements_of style) }
+    ensures { IfOk result (λ made. view_nodes made.items ≡ spec.elements_of style) }
 {
     match style {
         BuiltInStyle::AuthorDate => {
@@ -312,7 +306,7 @@ fn elements(alloc: Global, style: BuiltInStyle) -> Result<Vec<LayoutRenderingEle
 
 /// The citation layout of a style.
 fn layout(alloc: Global, style: BuiltInStyle) -> Result<Layout, Memory>
-    ensures { IfOk result (λ made. view_layout made ≡ built_in_layout style) }
+    ensures { IfOk result (λ made. view_layout made ≡ spec.built_in_layout style) }
 {
     Ok(Layout::new(elements(alloc, style)?))
 }

@@ -2,7 +2,7 @@
 
 ghost use Rattle.std.specs.Prelude.{◌≡◌, IfOk};
 ghost use Rattle.csl_elements.specs.View.{view_node, view_layout};
-ghost use Rattle.csl_samples.specs.Title.{label, title_text, title_group, title_layout, CitesTitles};
+ghost use Rattle.csl_samples.specs.Title as spec;
 
 use csl_entry::EntryLike;
 use csl_style::{
@@ -95,14 +95,14 @@ impl EntryLike for TitleOnly {
 
 /// The word `Title`.
 fn label(alloc: Global) -> Result<LayoutRenderingElement, Memory>
-    ensures { IfOk result (λ made. view_node made ≡ label) }
+    ensures { IfOk result (λ made. view_node made ≡ spec.label) }
 {
     Ok(Text::value(alloc, "Title")?.into())
 }
 
 /// The title in italics.
 fn title_text() -> LayoutRenderingElement
-    ensures { view_node result ≡ title_text }
+    ensures { view_node result ≡ spec.title_text }
 {
     let title = Variable::Standard(StandardVariable::Title);
     Text {
@@ -115,7 +115,7 @@ fn title_text() -> LayoutRenderingElement
 /// The word `Title` and the title, in parentheses.
 #[tactic(auto, using(csl_elements::proofs::Rolled::group_made))]
 fn title_group(alloc: Global) -> Result<LayoutRenderingElement, Memory>
-    ensures { IfOk result (λ group. view_node group ≡ title_group) }
+    ensures { IfOk result (λ group. view_node group ≡ spec.title_group) }
 {
     let label = label(alloc)?;
     let children = vec![in alloc; label, title_text()]?;
@@ -129,7 +129,7 @@ fn title_group(alloc: Global) -> Result<LayoutRenderingElement, Memory>
 
 /// The layout of titles: the group of the word and the title.
 fn title_layout(alloc: Global) -> Result<Layout, Memory>
-    ensures { IfOk result (λ layout. view_layout layout ≡ title_layout) }
+    ensures { IfOk result (λ layout. view_layout layout ≡ spec.title_layout) }
 {
     let group = title_group(alloc)?;
     let elements = vec![in alloc; group]?;
@@ -138,7 +138,7 @@ fn title_layout(alloc: Global) -> Result<Layout, Memory>
 
 /// The style that titles are cited in. It has a citation layout, no macros and no locales.
 pub fn title_style(alloc: Global) -> Result<Style, Memory>
-    ensures { IfOk result CitesTitles }
+    ensures { IfOk result spec.CitesTitles }
 {
     let citation = title_layout(alloc)?;
     let settings = StyleSettings::default();

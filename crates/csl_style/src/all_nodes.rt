@@ -3,7 +3,7 @@
 
 ghost use Rattle.std.specs.Prelude.{◌≡◌, [], ◌∷◌, ◌++◌, None, IfOk, IfSome, OnOk, option_map};
 ghost use Rattle.csl_elements.specs.View.{view_node, view_nodes, view_choose, view_names, view_child};
-ghost use Rattle.csl_style.specs.AllNodes.{all_nodes, nodes_inside, nodes_in_child, nodes_left, called_name};
+ghost use Rattle.csl_style.specs.AllNodes as spec;
 
 use csl_elements::{Choose, LayoutRenderingElement, Names, NamesChild, TextTarget};
 use std::alloc::{AllocError, Global};
@@ -21,7 +21,8 @@ impl<'s> NodesLeft<'s> {
         alloc: Global,
         nodes: &'s [LayoutRenderingElement],
     ) -> Result<NodesLeft<'s>, AllocError>
-        ensures { IfOk result (λ left. nodes_left left.lists.items ≡ all_nodes (view_nodes nodes.now)) }
+        ensures { IfOk result (λ left. spec.nodes_left left.lists.items
+            ≡ spec.all_nodes (view_nodes nodes.now)) }
     {
         let lists = vec![in alloc; nodes]?;
         Ok(NodesLeft { lists })
@@ -30,8 +31,8 @@ impl<'s> NodesLeft<'s> {
     /// Puts a list of nodes, with those inside them, before the others.
     #[tactic(auto, using(crate::proofs::AllNodesLaws::left_pushed))]
     pub(crate) fn push(&mut self, nodes: &'s [LayoutRenderingElement]) -> Result<(), AllocError>
-        ensures { OnOk result (nodes_left self.new.lists.items
-            ≡ all_nodes (view_nodes nodes.now) ++ nodes_left self.old.lists.items) }
+        ensures { OnOk result (spec.nodes_left self.new.lists.items
+            ≡ spec.all_nodes (view_nodes nodes.now) ++ spec.nodes_left self.old.lists.items) }
     {
         if !nodes.is_empty() {
             self.lists.push(nodes)?;
@@ -42,8 +43,8 @@ impl<'s> NodesLeft<'s> {
     /// Puts the nodes inside a choose before the others.
     #[tactic(auto, using(crate::proofs::AllNodesLaws::choose_laws))]
     fn push_branches(&mut self, choose: &'s Choose) -> Result<(), AllocError>
-        ensures { OnOk result (nodes_left self.new.lists.items
-            ≡ nodes_inside (view_choose choose.now) ++ nodes_left self.old.lists.items) }
+        ensures { OnOk result (spec.nodes_left self.new.lists.items
+            ≡ spec.nodes_inside (view_choose choose.now) ++ spec.nodes_left self.old.lists.items) }
     {
         if let Some(otherwise) = &choose.otherwise {
             self.push(otherwise)?;
@@ -58,8 +59,8 @@ impl<'s> NodesLeft<'s> {
 
     /// Puts the nodes inside a child of names before the others. Only a substitute has any.
     fn push_child(&mut self, child: &'s NamesChild) -> Result<(), AllocError>
-        ensures { OnOk result (nodes_left self.new.lists.items
-            ≡ nodes_in_child (view_child child.now) ++ nodes_left self.old.lists.items) }
+        ensures { OnOk result (spec.nodes_left self.new.lists.items
+            ≡ spec.nodes_in_child (view_child child.now) ++ spec.nodes_left self.old.lists.items) }
     {
         match child {
             NamesChild::Name(_) | NamesChild::EtAl(_) | NamesChild::Label(_) => Ok(()),
@@ -70,8 +71,8 @@ impl<'s> NodesLeft<'s> {
     /// Puts the nodes inside a names node before the others. They are those of its substitutes.
     #[tactic(auto, using(crate::proofs::AllNodesLaws::names_laws))]
     fn push_substitutes(&mut self, names: &'s Names) -> Result<(), AllocError>
-        ensures { OnOk result (nodes_left self.new.lists.items
-            ≡ nodes_inside (view_names names.now) ++ nodes_left self.old.lists.items) }
+        ensures { OnOk result (spec.nodes_left self.new.lists.items
+            ≡ spec.nodes_inside (view_names names.now) ++ spec.nodes_left self.old.lists.items) }
     {
         let mut i = names.children.len();
         while i > 0 {
@@ -83,8 +84,8 @@ impl<'s> NodesLeft<'s> {
 
     /// Puts the nodes inside a node before the others.
     fn push_inside(&mut self, node: &'s LayoutRenderingElement) -> Result<(), AllocError>
-        ensures { OnOk result (nodes_left self.new.lists.items
-            ≡ nodes_inside (view_node node.now) ++ nodes_left self.old.lists.items) }
+        ensures { OnOk result (spec.nodes_left self.new.lists.items
+            ≡ spec.nodes_inside (view_node node.now) ++ spec.nodes_left self.old.lists.items) }
     {
         match node {
             LayoutRenderingElement::Text(_)
@@ -100,10 +101,11 @@ impl<'s> NodesLeft<'s> {
     /// Takes the next node.
     #[tactic(auto, using(crate::proofs::AllNodesLaws::next_laws))]
     pub(crate) fn next(&mut self) -> Result<Option<&'s LayoutRenderingElement>, AllocError>
-        ensures next { IfOk result (λ next. IfSome next (λ node. nodes_left self.old.lists.items
-            ≡ view_node node.now ∷ nodes_left self.new.lists.items)) }
+        ensures next { IfOk result (λ next. IfSome next (λ node. spec.nodes_left
+            self.old.lists.items
+            ≡ view_node node.now ∷ spec.nodes_left self.new.lists.items)) }
         ensures end { IfOk result (λ next. next ≡ None
-            → nodes_left self.old.lists.items ≡ []) }
+            → spec.nodes_left self.old.lists.items ≡ []) }
     {
         while let Some(list) = self.lists.pop() {
             if let Some((first, rest)) = list.split_first() {
@@ -118,7 +120,7 @@ impl<'s> NodesLeft<'s> {
 
 /// The name of the macro that a node calls. The nodes inside it do not count.
 pub(crate) fn called_name(node: &LayoutRenderingElement) -> Option<&str>
-    ensures { option_map (λ name. name.now) result ≡ called_name (view_node node.now) }
+    ensures { option_map (λ name. name.now) result ≡ spec.called_name (view_node node.now) }
 {
     match node {
         LayoutRenderingElement::Text(text) => match &text.target {

@@ -1,7 +1,7 @@
 //! The search for a macro that a style calls but does not have (CSL 1.0.2, Macro).
 
 ghost use Rattle.std.specs.Prelude.{◌≡◌, option_map};
-ghost use Rattle.csl_style.specs.Missing.{if_missing, missing_in, missing_in_all, missing_in_child, missing_in_macros, missing_macro};
+ghost use Rattle.csl_style.specs.Missing as spec;
 ghost use Rattle.csl_elements.specs.View.{definitions, view_node, view_child, view_choose, view_nodes};
 
 use crate::style::Style;
@@ -10,7 +10,7 @@ use csl_elements::{Choose, CslMacro, LayoutRenderingElement, NamesChild, TextTar
 /// Returns the name if the style has no macro of that name.
 fn if_missing<'s>(style: &Style, name: &'s str) -> Option<&'s str>
     ensures { option_map (λ missing. missing.now) result
-        ≡ if_missing (definitions style.now.macros) name.now }
+        ≡ spec.if_missing (definitions style.now.macros) name.now }
 {
     match style.get_macro(name) {
         Some(_) => None,
@@ -22,7 +22,7 @@ fn if_missing<'s>(style: &Style, name: &'s str) -> Option<&'s str>
 #[cycle(missing)]
 fn missing_in<'s>(style: &Style, element: &'s LayoutRenderingElement) -> Option<&'s str>
     ensures { option_map (λ name. name.now) result
-        ≡ missing_in (definitions style.now.macros) (view_node element.now) }
+        ≡ spec.missing_in (definitions style.now.macros) (view_node element.now) }
 {
     match element {
         LayoutRenderingElement::Text(text) => match &text.target {
@@ -51,7 +51,7 @@ fn missing_in<'s>(style: &Style, element: &'s LayoutRenderingElement) -> Option<
 #[cycle(missing)]
 fn missing_in_all<'s>(style: &Style, elements: &'s [LayoutRenderingElement]) -> Option<&'s str>
     ensures { option_map (λ name. name.now) result
-        ≡ missing_in_all (definitions style.now.macros) (view_nodes elements.now) }
+        ≡ spec.missing_in_all (definitions style.now.macros) (view_nodes elements.now) }
 {
     for element in elements {
         if let Some(name) = missing_in(style, element) {
@@ -65,7 +65,7 @@ fn missing_in_all<'s>(style: &Style, elements: &'s [LayoutRenderingElement]) -> 
 #[cycle(missing)]
 fn missing_in_child<'s>(style: &Style, child: &'s NamesChild) -> Option<&'s str>
     ensures { option_map (λ name. name.now) result
-        ≡ missing_in_child (definitions style.now.macros) (view_child child.now) }
+        ≡ spec.missing_in_child (definitions style.now.macros) (view_child child.now) }
 {
     match child {
         NamesChild::Name(_) | NamesChild::EtAl(_) | NamesChild::Label(_) => None,
@@ -77,7 +77,7 @@ fn missing_in_child<'s>(style: &Style, child: &'s NamesChild) -> Option<&'s str>
 #[cycle(missing)]
 fn missing_in_choose<'s>(style: &Style, choose: &'s Choose) -> Option<&'s str>
     ensures { option_map (λ name. name.now) result
-        ≡ missing_in (definitions style.now.macros) (view_choose choose.now) }
+        ≡ spec.missing_in (definitions style.now.macros) (view_choose choose.now) }
 {
     if let Some(name) = missing_in_all(style, &choose.if_.children) {
         return Some(name);
@@ -96,7 +96,7 @@ fn missing_in_choose<'s>(style: &Style, choose: &'s Choose) -> Option<&'s str>
 /// The first missing name in the nodes of macros, each the first of its name in the style.
 fn missing_in_macros<'s>(style: &Style, macros: &'s [CslMacro]) -> Option<&'s str>
     ensures { option_map (λ name. name.now) result
-        ≡ missing_in_macros (definitions style.now.macros) 0 (definitions macros.now) }
+        ≡ spec.missing_in_macros (definitions style.now.macros) 0 (definitions macros.now) }
 {
     for (i, m) in macros.iter().enumerate() {
         if style.macro_index(m.name.as_str()) == Some(i) {
@@ -118,7 +118,7 @@ impl Style {
     /// The search allocates nothing, and looks up the name of each call and of each macro at most
     /// once.
     pub fn missing_macro(&self) -> Option<&str>
-        ensures { option_map (λ name. name.now) result ≡ missing_macro self.now }
+        ensures { option_map (λ name. name.now) result ≡ spec.missing_macro self.now }
     {
         if let Some(name) = missing_in_all(self, &self.citation().elements) {
             return Some(name);

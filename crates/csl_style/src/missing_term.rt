@@ -12,7 +12,7 @@ ghost use Rattle.csl_elements.specs.declared.term.Term.TheVariants as terms;
 ghost use Rattle.csl_elements.specs.declared.term.TermForm.TheVariants as forms;
 ghost use Rattle.csl_style.specs.Expanded.{macro_env};
 ghost use Rattle.csl_style.specs.FoundTerms.{Finds};
-ghost use Rattle.csl_style.specs.MissingTerm.{word, is_missing, with_asked, asked_in_two_quotes, asked_in_quotes, kinds_with_term, kind_terms, asked_in_label, asked_in_part, asked_in_parts, asked_in_date, writes_and, and_of_name, asked_in_and, et_al_term, label_on, asked_in_names_label, asked_in_names, within_text, inside_names, asked_in_node, asked_in_nodes, asked_in_child, scope_of_layout, missing_terms, missing_term};
+ghost use Rattle.csl_style.specs.MissingTerm as spec;
 
 use crate::style::{Scope, Style};
 use csl_common::{Memory, Season};
@@ -34,14 +34,14 @@ pub(crate) struct TermScope {
 
 /// Whether no locale has the term in its form or in one that this falls back to.
 fn is_missing(style: &Style, asked: (Term, TermForm)) -> bool
-    ensures { result ≡ is_missing style.now.locales asked }
+    ensures { result ≡ spec.is_missing style.now.locales asked }
 {
     style.term(asked.0, asked.1, false).is_none()
 }
 
 /// A term that names no variable, in its long form.
 fn word(term: OtherTerm) -> (Term, TermForm)
-    ensures { result ≡ word term }
+    ensures { result ≡ spec.word term }
 {
     (Term::Other(term), TermForm::Long)
 }
@@ -51,7 +51,7 @@ fn with_asked(
     mut terms: Vec<(Term, TermForm)>,
     asked: (Term, TermForm),
 ) -> Option<Vec<(Term, TermForm)>>
-    ensures { IfSome result (λ all. all.items ≡ with_asked terms.items asked) }
+    ensures { IfSome result (λ all. all.items ≡ spec.with_asked terms.items asked) }
 {
     if !terms.contains(&asked) && terms.push(asked).is_err() {
         return None;
@@ -73,7 +73,7 @@ impl Found {
     fn add(&mut self, missing: (Term, TermForm))
         ensures first { self.new.first ≡ option_or self.old.first (Some missing) }
         ensures all { IfSome self.new.all (λ now. Some now.items
-            ≡ option_map (λ before. with_asked before.items missing) self.old.all) }
+            ≡ option_map (λ before. spec.with_asked before.items missing) self.old.all) }
     {
         if self.first.is_none() {
             self.first = Some(missing);
@@ -105,7 +105,7 @@ impl Found {
 
 /// Asks for two quotes: for the inner ones if `in_quotes`.
 fn ask_two_quotes(found: &mut Found, style: &Style, in_quotes: bool)
-    ensures { Finds style.now.locales (asked_in_two_quotes in_quotes) found.old found.new }
+    ensures { Finds style.now.locales (spec.asked_in_two_quotes in_quotes) found.old found.new }
 {
     if in_quotes {
         let quotes = [
@@ -121,7 +121,7 @@ fn ask_two_quotes(found: &mut Found, style: &Style, in_quotes: bool)
 
 /// Asks for the quotes of a text, if it has them.
 fn ask_quotes(found: &mut Found, style: &Style, quotes: bool, in_quotes: bool)
-    ensures { Finds style.now.locales (asked_in_quotes quotes in_quotes) found.old found.new }
+    ensures { Finds style.now.locales (spec.asked_in_quotes quotes in_quotes) found.old found.new }
 {
     if quotes {
         ask_two_quotes(found, style, in_quotes);
@@ -130,7 +130,7 @@ fn ask_quotes(found: &mut Found, style: &Style, quotes: bool, in_quotes: bool)
 
 /// Asks for the term of each of these kinds of locators, in a form.
 fn ask_kinds(found: &mut Found, style: &Style, form: TermForm, kinds: &[Locator])
-    ensures { Finds style.now.locales (kind_terms form kinds.now) found.old found.new }
+    ensures { Finds style.now.locales (spec.kind_terms form kinds.now) found.old found.new }
 {
     for kind in kinds {
         found.ask(style, (Term::Locator(*kind), form));
@@ -140,7 +140,8 @@ fn ask_kinds(found: &mut Found, style: &Style, form: TermForm, kinds: &[Locator]
 /// Asks for the term of each kind of locator that has one, in a form.
 #[tactic(auto, unfolding(crate::specs::MissingTerm::kinds_with_term))]
 fn ask_all_kinds(found: &mut Found, style: &Style, form: TermForm)
-    ensures { Finds style.now.locales (kind_terms form kinds_with_term) found.old found.new }
+    ensures { Finds style.now.locales (spec.kind_terms form spec.kinds_with_term) found.old
+        found.new }
 {
     let kinds = [
         Locator::Act,
@@ -176,7 +177,7 @@ fn ask_all_kinds(found: &mut Found, style: &Style, form: TermForm)
 
 /// Asks for the term of a label. That of the locator asks for the terms of all kinds.
 fn ask_label(found: &mut Found, style: &Style, variable: NumberOrPageVariable, form: TermForm)
-    ensures { Finds style.now.locales (asked_in_label variable form) found.old found.new }
+    ensures { Finds style.now.locales (spec.asked_in_label variable form) found.old found.new }
 {
     match variable {
         NumberOrPageVariable::Number(variable) => {
@@ -199,7 +200,7 @@ fn season(season: Season) -> (Term, TermForm)
 
 /// Asks for what a part of a date may need: the eras of a year, the seasons in place of a month.
 fn ask_part(found: &mut Found, style: &Style, name: DatePartName)
-    ensures { Finds style.now.locales (asked_in_part name) found.old found.new }
+    ensures { Finds style.now.locales (spec.asked_in_part name) found.old found.new }
 {
     match name {
         DatePartName::Day => {}
@@ -218,7 +219,7 @@ fn ask_part(found: &mut Found, style: &Style, name: DatePartName)
 
 /// Asks for what the parts of a date may need.
 fn ask_parts(found: &mut Found, style: &Style, parts: &[DatePart])
-    ensures { Finds style.now.locales (asked_in_parts (map view_date_part parts.now)) found.old
+    ensures { Finds style.now.locales (spec.asked_in_parts (map view_date_part parts.now)) found.old
         found.new }
 {
     for part in parts {
@@ -228,7 +229,7 @@ fn ask_parts(found: &mut Found, style: &Style, parts: &[DatePart])
 
 /// Asks for what a date may need: with a form, the localized date.
 fn ask_date(found: &mut Found, style: &Style, date: &Date)
-    ensures { Finds style.now.locales (asked_in_date style.now.locales (view_date date.now))
+    ensures { Finds style.now.locales (spec.asked_in_date style.now.locales (view_date date.now))
         found.old found.new }
 {
     match date.form {
@@ -242,7 +243,7 @@ fn ask_date(found: &mut Found, style: &Style, date: &Date)
 
 /// Whether `and` is a word by an option, else as inherited.
 fn writes_and(and: Option<NameAnd>, inherited: bool) -> bool
-    ensures { result ≡ writes_and and inherited }
+    ensures { result ≡ spec.writes_and and inherited }
 {
     match and {
         None => inherited,
@@ -254,7 +255,7 @@ fn writes_and(and: Option<NameAnd>, inherited: bool) -> bool
 /// The label of names on one side of them: after them if `behind`.
 fn label_on(parts: NamesParts<'_>, behind: bool) -> Option<&VariablelessLabel>
     ensures { option_map (λ l. view_label l.now) result
-        ≡ label_on behind (parts_node parts.entry).label }
+        ≡ spec.label_on behind (parts_node parts.entry).label }
 {
     match parts.label() {
         None => None,
@@ -275,7 +276,7 @@ fn ask_names_label(
     label: Option<&VariablelessLabel>,
     variables: &[NameVariable],
 )
-    ensures { Finds style.now.locales (asked_in_names_label
+    ensures { Finds style.now.locales (spec.asked_in_names_label
         (option_map (λ l. view_label l.now) label.entry) variables.now) found.old found.new }
 {
     if let Some(written) = label {
@@ -287,9 +288,9 @@ fn ask_names_label(
 
 /// Asks for `and`, if names write it as a word.
 fn ask_and(found: &mut Found, style: &Style, parts: NamesParts<'_>, inherited: bool)
-    ensures { Finds style.now.locales (asked_in_and
-        (writes_and (and_of_name (first_name (parts_node parts.entry)))
-        (writes_and (parts_node parts.entry).options.and inherited))) found.old found.new }
+    ensures { Finds style.now.locales (spec.asked_in_and
+        (spec.writes_and (spec.and_of_name (first_name (parts_node parts.entry)))
+        (spec.writes_and (parts_node parts.entry).options.and inherited))) found.old found.new }
 {
     let own = writes_and(parts.options.and, inherited);
     let writes = match parts.name() {
@@ -303,7 +304,7 @@ fn ask_and(found: &mut Found, style: &Style, parts: NamesParts<'_>, inherited: b
 
 /// The term that replaces the names left out.
 fn et_al_term(parts: NamesParts<'_>) -> OtherTerm
-    ensures { result ≡ et_al_term (parts_node parts.entry).et_al }
+    ensures { result ≡ spec.et_al_term (parts_node parts.entry).et_al }
 {
     match parts.et_al() {
         Some(et_al) => et_al.term,
@@ -313,7 +314,8 @@ fn et_al_term(parts: NamesParts<'_>) -> OtherTerm
 
 /// Asks for the terms of names of these parts, without their substitutes.
 fn ask_names(found: &mut Found, style: &Style, parts: NamesParts<'_>, inherited: bool)
-    ensures { Finds style.now.locales (asked_in_names inherited (parts_node parts.entry)) found.old
+    ensures { Finds style.now.locales (spec.asked_in_names inherited (parts_node parts.entry))
+        found.old
         found.new }
 {
     ask_names_label(found, style, label_on(parts, false), parts.variables);
@@ -325,7 +327,7 @@ fn ask_names(found: &mut Found, style: &Style, parts: NamesParts<'_>, inherited:
 impl TermScope {
     /// What is around the nodes inside a text.
     fn within_text(self, quotes: bool) -> TermScope
-        ensures { result ≡ within_text quotes self }
+        ensures { result ≡ spec.within_text quotes self }
     {
         TermScope {
             in_quotes: if quotes {
@@ -339,7 +341,7 @@ impl TermScope {
 
     /// What is around the substitutes of names.
     fn inside_names(self, parts: NamesParts<'_>) -> TermScope
-        ensures { result ≡ inside_names (parts_node parts.entry) self }
+        ensures { result ≡ spec.inside_names (parts_node parts.entry) self }
     {
         TermScope {
             writes_and: writes_and(parts.options.and, self.writes_and),
@@ -356,7 +358,7 @@ fn visit<'s>(
     element: &'s LayoutRenderingElement,
     around: TermScope,
 )
-    ensures { Finds style.now.locales (asked_in_node style.now.locales around
+    ensures { Finds style.now.locales (spec.asked_in_node style.now.locales around
         (expand (macro_env style.now) (view_node element.now))) found.old found.new }
 {
     match element {
@@ -380,7 +382,7 @@ fn visit_all<'s>(
     elements: &'s [LayoutRenderingElement],
     around: TermScope,
 )
-    ensures { Finds style.now.locales (asked_in_nodes style.now.locales around
+    ensures { Finds style.now.locales (spec.asked_in_nodes style.now.locales around
         (expand_nodes (macro_env style.now) (view_nodes elements.now))) found.old found.new }
 {
     for element in elements {
@@ -391,7 +393,7 @@ fn visit_all<'s>(
 /// Asks for the terms of a text, and of the macro that it calls.
 #[cycle(terms)]
 fn visit_text<'s>(found: &mut Found, style: &'s Style, text: &'s Text, around: TermScope)
-    ensures { Finds style.now.locales (asked_in_node style.now.locales around
+    ensures { Finds style.now.locales (spec.asked_in_node style.now.locales around
         (expand (macro_env style.now) (view_text text.now))) found.old found.new }
 {
     match &text.target {
@@ -419,7 +421,7 @@ fn visit_text<'s>(found: &mut Found, style: &'s Style, text: &'s Text, around: T
 /// Asks for the terms of names, and of their substitutes.
 #[cycle(terms)]
 fn visit_names<'s>(found: &mut Found, style: &'s Style, names: &'s Names, around: TermScope)
-    ensures { Finds style.now.locales (asked_in_node style.now.locales around
+    ensures { Finds style.now.locales (spec.asked_in_node style.now.locales around
         (expand (macro_env style.now) (view_names names.now))) found.old found.new }
 {
     let parts = names.parts();
@@ -439,7 +441,7 @@ fn visit_child<'s>(
     original: NamesParts<'s>,
     around: TermScope,
 )
-    ensures { Finds style.now.locales (asked_in_child style.now.locales (macro_env style.now)
+    ensures { Finds style.now.locales (spec.asked_in_child style.now.locales (macro_env style.now)
         (parts_node original.entry) around (view_child child.now)) found.old found.new }
 {
     match child {
@@ -459,7 +461,7 @@ fn visit_substitute<'s>(
     original: NamesParts<'s>,
     around: TermScope,
 )
-    ensures { Finds style.now.locales (asked_in_nodes style.now.locales around
+    ensures { Finds style.now.locales (spec.asked_in_nodes style.now.locales around
         (expand_substitute_nodes (macro_env style.now) (parts_node original.entry)
         (view_nodes elements.now))) found.old found.new }
 {
@@ -478,7 +480,7 @@ fn visit_place<'s>(
     original: NamesParts<'s>,
     around: TermScope,
 )
-    ensures { Finds style.now.locales (asked_in_node style.now.locales around
+    ensures { Finds style.now.locales (spec.asked_in_node style.now.locales around
         (as_substitute_child (parts_node original.entry) (view_node element.now)
         (expand (macro_env style.now) (view_node element.now)))) found.old found.new }
 {
@@ -494,7 +496,7 @@ fn visit_place<'s>(
 /// Asks for the terms of the branches of a choice, then of its `otherwise` nodes.
 #[cycle(terms)]
 fn visit_choose<'s>(found: &mut Found, style: &'s Style, choose: &'s Choose, around: TermScope)
-    ensures { Finds style.now.locales (asked_in_node style.now.locales around
+    ensures { Finds style.now.locales (spec.asked_in_node style.now.locales around
         (expand (macro_env style.now) (view_choose choose.now))) found.old found.new }
 {
     visit_all(found, style, &choose.if_.children, around);
@@ -509,7 +511,7 @@ fn visit_choose<'s>(found: &mut Found, style: &'s Style, choose: &'s Choose, aro
 
 /// What is around a layout of a style: no quotes, and `and` as a word if it is one in a scope.
 fn scope_of_layout(style: &Style) -> TermScope
-    ensures { result ≡ scope_of_layout style.now.settings }
+    ensures { result ≡ spec.scope_of_layout style.now.settings }
 {
     let in_citation = writes_and(style.base_name_options(Scope::Citation).and, false);
     let in_bibliography = writes_and(style.base_name_options(Scope::Bibliography).and, false);
@@ -544,9 +546,9 @@ impl Style {
         layout: &Layout,
     ) -> Result<Vec<(Term, TermForm)>, Memory>
         ensures list { IfOk result (λ missing. missing.items
-            ≡ missing_terms self.now layout.now) }
+            ≡ spec.missing_terms self.now layout.now) }
         ensures first { IfOk result (λ missing. slice_get missing.items 0
-            ≡ missing_term self.now layout.now) }
+            ≡ spec.missing_term self.now layout.now) }
     {
         let mut found = Found {
             first: None,
@@ -558,7 +560,7 @@ impl Style {
 
     /// The first of [`Style::missing_terms`], if there is any. The function allocates nothing.
     pub fn missing_term(&self, layout: &Layout) -> Option<(Term, TermForm)>
-        ensures { result ≡ missing_term self.now layout.now }
+        ensures { result ≡ spec.missing_term self.now layout.now }
     {
         let mut found = Found {
             first: None,

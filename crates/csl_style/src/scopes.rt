@@ -2,7 +2,7 @@
 
 ghost use Rattle.std.specs.Prelude.{◌≡◌};
 ghost use Rattle.csl_elements.specs.NamesOptions.{inherited_options};
-ghost use Rattle.csl_style.specs.Scopes.{base_options, is_punctuation_in_quote, are_day_ordinals_limited};
+ghost use Rattle.csl_style.specs.Scopes as spec;
 
 use crate::style::{Scope, Style};
 use csl_elements::InheritedNameOptions;
@@ -11,7 +11,7 @@ impl Style {
     /// The options that each names node of the scope inherits (CSL 1.0.2, Inheritable Name
     /// Options): each one that the scope sets, else that of the whole style.
     pub fn base_name_options(&self, scope: Scope) -> InheritedNameOptions<'_>
-        ensures { inherited_options result ≡ base_options scope self.now.settings }
+        ensures { inherited_options result ≡ spec.base_options scope self.now.settings }
     {
         let settings = self.settings();
         let own = match scope {
@@ -24,7 +24,7 @@ impl Style {
     /// Whether a comma or period after a closing quote goes before it. The first locale decides.
     /// Without a locale it does not.
     pub fn is_punctuation_in_quote(&self) -> bool
-        ensures { result ≡ is_punctuation_in_quote self.now.locales }
+        ensures { result ≡ spec.is_punctuation_in_quote self.now.locales }
     {
         match self.locales().first() {
             Some(locale) => locale.punctuation_in_quote,
@@ -35,7 +35,7 @@ impl Style {
     /// Whether only the first day of a month is written as an ordinal. The first locale decides.
     /// Without a locale there is no such limit.
     pub fn are_day_ordinals_limited(&self) -> bool
-        ensures { result ≡ are_day_ordinals_limited self.now.locales }
+        ensures { result ≡ spec.are_day_ordinals_limited self.now.locales }
     {
         match self.locales().first() {
             Some(locale) => locale.limit_day_ordinals_to_day_1,

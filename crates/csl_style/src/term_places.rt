@@ -3,7 +3,7 @@
 ghost use Rattle.std.specs.Prelude.{◌≡◌, IfOk, map, option_map};
 ghost use Rattle.std.specs.HashMap.{get};
 ghost use Rattle.csl_elements.specs.Locale.{term_view, terms_of};
-ghost use Rattle.csl_elements.specs.Term.{found_term, in_form, same_term};
+ghost use Rattle.csl_elements.specs.Term as spec;
 ghost use Rattle.csl_style.specs.TermPlaces.{AreFirstEntries, AreGenders, ArePlacesOfTerms};
 
 use csl_common::GrammarGender;
@@ -89,7 +89,7 @@ impl TermPlaces {
     ) -> Option<&'s TermEntry>
         requires { ArePlacesOfTerms self.now locales.now }
         ensures { option_map (λ entry. term_view entry.now) result
-            ≡ in_form (map terms_of locales.now) term form }
+            ≡ spec.in_form (map terms_of locales.now) term form }
     {
         let place = self.entries.get(&(term, form))?;
         Some(&locales[place.locale].terms[place.row])
@@ -105,7 +105,7 @@ impl TermPlaces {
     ) -> Option<&'s TermEntry>
         requires { ArePlacesOfTerms self.now locales.now }
         ensures { option_map (λ entry. term_view entry.now) result
-            ≡ found_term (map terms_of locales.now) term form }
+            ≡ spec.found_term (map terms_of locales.now) term form }
     {
         for form in lookup::forms_for(form) {
             if let Some(entry) = self.in_form(locales, term, *form) {
@@ -117,7 +117,7 @@ impl TermPlaces {
 
     /// The gender of a term.
     pub(crate) fn gender(&self, term: Term) -> Option<GrammarGender>
-        ensures { result ≡ get same_term self.now.genders term }
+        ensures { result ≡ get spec.same_term self.now.genders term }
     {
         self.genders.get(&term).copied()
     }

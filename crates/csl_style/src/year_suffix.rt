@@ -6,7 +6,7 @@ ghost use Rattle.csl_elements.specs.Node.{expand_nodes};
 ghost use Rattle.csl_elements.specs.View.{definitions, view_node, view_nodes};
 ghost use Rattle.csl_style.specs.Expansion.{macro_expansion, IsAcyclic};
 ghost use Rattle.csl_style.specs.CallGraph.{children_at, ArePlacesByName};
-ghost use Rattle.csl_style.specs.YearSuffix.{is_year_suffix, any_has_year_suffix, macro_has_year_suffix, is_implicit_in};
+ghost use Rattle.csl_style.specs.YearSuffix as spec;
 ghost use Rattle.csl_style.specs.AllNodes.{is_suffix_text};
 
 use crate::all_nodes::{NodesLeft, called_name};
@@ -19,7 +19,7 @@ use std::marker::Model;
 
 /// Whether the variable is the year suffix.
 fn is_year_suffix(variable: Variable) -> bool
-    ensures { result ≡ is_year_suffix variable }
+    ensures { result ≡ spec.is_year_suffix variable }
 {
     matches!(variable, Variable::Standard(StandardVariable::YearSuffix))
 }
@@ -89,7 +89,7 @@ impl<'s> Search<'s> {
             ≡ Some (expand_nodes (macro_expansion (definitions self.now))
             (children_at (definitions self.now) i))) }
         ensures none { result ≡ None
-            → macro_has_year_suffix (macro_expansion (definitions self.now) name.now) ≡ false }
+            → spec.macro_has_year_suffix (macro_expansion (definitions self.now) name.now) ≡ false }
     {
         self.places.get(name)
     }
@@ -104,7 +104,7 @@ impl<'s> Search<'s> {
     /// Whether a text of the year suffix is in the macro at a place, if that is known.
     fn known(&self, i: usize) -> Option<bool>
         requires { i < length self.now }
-        ensures { IfSome result (λ has. any_has_year_suffix (expand_nodes
+        ensures { IfSome result (λ has. spec.any_has_year_suffix (expand_nodes
             (macro_expansion (definitions self.now)) (children_at (definitions self.now) i)) ≡ has) }
     {
         self.known[i]
@@ -121,7 +121,8 @@ impl<'s> Search<'s> {
     /// Keeps whether a text of the year suffix is in the macro at a place.
     fn note(&mut self, i: usize, has: bool)
         requires within { i < length self.old }
-        requires has { any_has_year_suffix (expand_nodes (macro_expansion (definitions self.old))
+        requires has { spec.any_has_year_suffix (expand_nodes (macro_expansion (definitions
+            self.old))
             (children_at (definitions self.old) i)) ≡ has }
         ensures { self.new ≡ self.old }
     {
@@ -155,7 +156,7 @@ fn any_has_year_suffix<'s>(
     search: &Search<'s>,
     elements: &'s [LayoutRenderingElement],
 ) -> Result<bool, AllocError>
-    ensures { IfOk result (λ has. has ≡ any_has_year_suffix
+    ensures { IfOk result (λ has. has ≡ spec.any_has_year_suffix
         (expand_nodes (macro_expansion (definitions search.now)) (view_nodes elements.now))) }
 {
     let mut left = NodesLeft::new(alloc, elements)?;
@@ -204,7 +205,7 @@ fn is_implicit<'s>(
     layout: Option<&'s Layout>,
 ) -> Result<bool, AllocError>
     ensures { IfOk result (λ is. is
-        ≡ is_implicit_in (definitions search.now) (option_copied layout.entry)) }
+        ≡ spec.is_implicit_in (definitions search.now) (option_copied layout.entry)) }
 {
     match layout {
         Some(layout) => {
@@ -235,9 +236,9 @@ pub(crate) fn implicit_suffix<'s>(
     requires ranks { IsAcyclic (definitions macros.now) }
     requires places { ArePlacesByName places.now (definitions macros.now) }
     ensures citation { IfOk result (λ implicit. implicit.in_citation
-        ≡ is_implicit_in (definitions macros.now) (Some citation.now)) }
+        ≡ spec.is_implicit_in (definitions macros.now) (Some citation.now)) }
     ensures bibliography { IfOk result (λ implicit. implicit.in_bibliography
-        ≡ is_implicit_in (definitions macros.now) bibliography.now) }
+        ≡ spec.is_implicit_in (definitions macros.now) bibliography.now) }
 {
     let mut search = Search::new(alloc, macros, places)?;
     search_macros(alloc, &mut search, callees_first)?;

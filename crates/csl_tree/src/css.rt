@@ -2,13 +2,13 @@
 //! Definitions: specs/Html.antt.
 
 ghost use Rattle.std.specs.Prelude.{◌≡◌};
-ghost use Rattle.csl_tree.specs.Html.{style_css, variant_css, weight_css, decoration_css, align_css, div_start};
+ghost use Rattle.csl_tree.specs.Html as spec;
 
 use csl_elements::{Display, FontStyle, FontVariant, FontWeight, TextDecoration, VerticalAlign};
 
 /// The CSS declaration of a font style, empty for the normal one.
 pub(crate) fn declare_style(style: FontStyle) -> &'static str
-    ensures { result.now ≡ style_css style }
+    ensures { result.now ≡ spec.style_css style }
 {
     match style {
         FontStyle::Normal => "",
@@ -18,7 +18,7 @@ pub(crate) fn declare_style(style: FontStyle) -> &'static str
 
 /// The CSS declaration of a font weight, empty for the normal one.
 pub(crate) fn declare_weight(weight: FontWeight) -> &'static str
-    ensures { result.now ≡ weight_css weight }
+    ensures { result.now ≡ spec.weight_css weight }
 {
     match weight {
         FontWeight::Normal => "",
@@ -29,7 +29,7 @@ pub(crate) fn declare_weight(weight: FontWeight) -> &'static str
 
 /// The CSS declaration of a text decoration, empty for none.
 pub(crate) fn declare_decoration(decoration: TextDecoration) -> &'static str
-    ensures { result.now ≡ decoration_css decoration }
+    ensures { result.now ≡ spec.decoration_css decoration }
 {
     match decoration {
         TextDecoration::None => "",
@@ -39,7 +39,7 @@ pub(crate) fn declare_decoration(decoration: TextDecoration) -> &'static str
 
 /// The CSS declaration of a font variant, empty for the normal one.
 pub(crate) fn declare_variant(variant: FontVariant) -> &'static str
-    ensures { result.now ≡ variant_css variant }
+    ensures { result.now ≡ spec.variant_css variant }
 {
     match variant {
         FontVariant::Normal => "",
@@ -49,7 +49,7 @@ pub(crate) fn declare_variant(variant: FontVariant) -> &'static str
 
 /// The CSS declaration of a vertical alignment, empty for none and for the baseline.
 pub(crate) fn declare_align(align: VerticalAlign) -> &'static str
-    ensures { result.now ≡ align_css align }
+    ensures { result.now ≡ spec.align_css align }
 {
     match align {
         VerticalAlign::None | VerticalAlign::Baseline => "",
@@ -60,7 +60,7 @@ pub(crate) fn declare_align(align: VerticalAlign) -> &'static str
 
 /// The start tag of the `div` for a display.
 pub(crate) fn div_start(display: Display) -> &'static str
-    ensures { result.now ≡ div_start display }
+    ensures { result.now ≡ spec.div_start display }
 {
     match display {
         Display::Block => "<div>",

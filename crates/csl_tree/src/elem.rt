@@ -4,7 +4,8 @@
 
 ghost use Rattle.std.specs.Prelude.{◌≡◌, ◌↔◌, [], length, min, None, IsTrue};
 ghost use Rattle.csl_tree.specs.declared.elem.Elem.{out-Elem};
-ghost use Rattle.csl_tree.specs.Tokens.{tokens, elem_tokens, child_tokens, leaf_text, is_empty, has_content, has_visible, optional_meta, text_tokens};
+ghost use Rattle.csl_tree.specs.Tokens as spec;
+ghost use Rattle.csl_tree.specs.Tokens.{elem_tokens, child_tokens, text_tokens};
 
 use crate::formatting::{Formatted, Formatting};
 use csl_elements::{Display, NameVariable};
@@ -90,7 +91,7 @@ pub enum BufWriteFormat {
 
 /// Whether the text has a character other than white space.
 fn has_visible(text: &str) -> bool
-    ensures { result ≡ has_visible text.now }
+    ensures { result ≡ spec.has_visible text.now }
 {
     text.chars().any(|c| !c.is_whitespace())
 }
@@ -98,7 +99,7 @@ fn has_visible(text: &str) -> bool
 impl ElemChildren {
     /// Returns an empty list of children.
     pub fn new(alloc: Global) -> ElemChildren
-        ensures { tokens result ≡ [] }
+        ensures { spec.tokens result ≡ [] }
     {
         ElemChildren(Vec::new(alloc))
     }
@@ -106,7 +107,7 @@ impl ElemChildren {
     /// Whether each child is empty.
     #[cycle(empty)]
     pub fn is_empty(&self) -> bool
-        ensures { result ≡ is_empty (tokens self.now) }
+        ensures { result ≡ spec.is_empty (spec.tokens self.now) }
     {
         for child in &self.0 {
             if !child.is_empty() {
@@ -119,7 +120,7 @@ impl ElemChildren {
     /// Whether any child has content ([`ElemChild::has_content`]).
     #[cycle(content)]
     pub fn has_content(&self) -> bool
-        ensures { result ≡ has_content (tokens self.now) }
+        ensures { result ≡ spec.has_content (spec.tokens self.now) }
     {
         for child in &self.0 {
             if child.has_content() {
@@ -132,7 +133,7 @@ impl ElemChildren {
     /// The number of bytes in the texts, markups and link texts, at most `usize::MAX`.
     #[cycle(len)]
     pub fn str_len(&self) -> usize
-        ensures { result ≡ min (length (leaf_text (tokens self.now))) usize.MAX }
+        ensures { result ≡ min (length (spec.leaf_text (spec.tokens self.now))) usize.MAX }
     {
         let mut len: usize = 0;
         for child in &self.0 {
@@ -146,7 +147,7 @@ impl Elem {
     /// Whether each child is empty.
     #[cycle(empty)]
     pub fn is_empty(&self) -> bool
-        ensures { result ≡ is_empty (elem_tokens self.now) }
+        ensures { result ≡ spec.is_empty (elem_tokens self.now) }
     {
         self.children.is_empty()
     }
@@ -154,7 +155,7 @@ impl Elem {
     /// Whether any child has content ([`ElemChild::has_content`]).
     #[cycle(content)]
     pub fn has_content(&self) -> bool
-        ensures { result ≡ has_content (elem_tokens self.now) }
+        ensures { result ≡ spec.has_content (elem_tokens self.now) }
     {
         self.children.has_content()
     }
@@ -162,7 +163,7 @@ impl Elem {
     /// The number of bytes in the texts, markups and link texts, at most `usize::MAX`.
     #[cycle(len)]
     pub fn str_len(&self) -> usize
-        ensures { result ≡ min (length (leaf_text (elem_tokens self.now))) usize.MAX }
+        ensures { result ≡ min (length (spec.leaf_text (elem_tokens self.now))) usize.MAX }
     {
         self.children.str_len()
     }
@@ -170,7 +171,7 @@ impl Elem {
     /// Whether the children may replace the element: it has neither display nor meta.
     pub fn may_inline(&self) -> bool
         ensures { IsTrue result ↔ ((out-Elem self.now).display ≡ None)
-            × (optional_meta (out-Elem self.now).meta ≡ None) }
+            × (spec.optional_meta (out-Elem self.now).meta ≡ None) }
     {
         self.display.is_none() && self.meta.is_none()
     }
@@ -181,7 +182,7 @@ impl ElemChild {
     /// empty.
     #[cycle(empty)]
     pub fn is_empty(&self) -> bool
-        ensures { result ≡ is_empty (child_tokens self.now) }
+        ensures { result ≡ spec.is_empty (child_tokens self.now) }
     {
         match self {
             ElemChild::Text(text) => text.text.is_empty(),
@@ -196,7 +197,7 @@ impl ElemChild {
     /// element with such a child.
     #[cycle(content)]
     pub fn has_content(&self) -> bool
-        ensures { result ≡ has_content (child_tokens self.now) }
+        ensures { result ≡ spec.has_content (child_tokens self.now) }
     {
         match self {
             ElemChild::Text(text) => has_visible(text.text.as_str()),
@@ -210,7 +211,7 @@ impl ElemChild {
     /// The number of bytes in the texts, markups and link texts, at most `usize::MAX`.
     #[cycle(len)]
     pub fn str_len(&self) -> usize
-        ensures { result ≡ min (length (leaf_text (child_tokens self.now))) usize.MAX }
+        ensures { result ≡ min (length (spec.leaf_text (child_tokens self.now))) usize.MAX }
     {
         match self {
             ElemChild::Text(text) => text.text.len(),

@@ -2,13 +2,13 @@
 //! Definitions: specs/Tokens.antt.
 
 ghost use Rattle.std.specs.Prelude.{◌≡◌};
-ghost use Rattle.csl_tree.specs.Tokens.{tokens, elem_tokens, child_tokens, leaf_text, has_text, last_char, ends_in_white_space, has_children};
+ghost use Rattle.csl_tree.specs.Tokens as spec;
 
 use crate::elem::{Elem, ElemChild, ElemChildren};
 
 /// The last character of a text.
 fn last_char(text: &str) -> Option<char>
-    ensures { result ≡ last_char text.now }
+    ensures { result ≡ spec.last_char text.now }
 {
     text.chars().next_back()
 }
@@ -16,21 +16,21 @@ fn last_char(text: &str) -> Option<char>
 impl ElemChildren {
     /// Whether there are children, even empty ones.
     pub fn has_children(&self) -> bool
-        ensures { result ≡ has_children (tokens self.now) }
+        ensures { result ≡ spec.has_children (spec.tokens self.now) }
     {
         !self.0.is_empty()
     }
 
     /// Whether the leaf text is not empty.
     pub fn has_text(&self) -> bool
-        ensures { result ≡ has_text (tokens self.now) }
+        ensures { result ≡ spec.has_text (spec.tokens self.now) }
     {
         self.str_len() > 0
     }
 
     /// Whether the leaf text ends in white space.
     pub fn ends_in_white_space(&self) -> bool
-        ensures { result ≡ ends_in_white_space (tokens self.now) }
+        ensures { result ≡ spec.ends_in_white_space (spec.tokens self.now) }
     {
         match self.last_char() {
             Some(c) => c.is_whitespace(),
@@ -41,7 +41,7 @@ impl ElemChildren {
     /// The last character of the leaf text.
     #[cycle(ends)]
     fn last_char(&self) -> Option<char>
-        ensures { result ≡ last_char (leaf_text (tokens self.now)) }
+        ensures { result ≡ spec.last_char (spec.leaf_text (spec.tokens self.now)) }
     {
         let mut i = self.0.len();
         while i > 0 {
@@ -59,7 +59,7 @@ impl Elem {
     /// The last character of the leaf text.
     #[cycle(ends)]
     fn last_char(&self) -> Option<char>
-        ensures { result ≡ last_char (leaf_text (elem_tokens self.now)) }
+        ensures { result ≡ spec.last_char (spec.leaf_text (spec.elem_tokens self.now)) }
     {
         self.children.last_char()
     }
@@ -69,7 +69,7 @@ impl ElemChild {
     /// The last character of the leaf text.
     #[cycle(ends)]
     pub(crate) fn last_char(&self) -> Option<char>
-        ensures { result ≡ last_char (leaf_text (child_tokens self.now)) }
+        ensures { result ≡ spec.last_char (spec.leaf_text (spec.child_tokens self.now)) }
     {
         match self {
             ElemChild::Text(text) => last_char(text.text.as_str()),

@@ -3,7 +3,7 @@
 ghost use Rattle.std.specs.Prelude.{◌≡◌, ◌<◌, Some, None, IsTrue, is_some, vec_len, IfSome, IfNone, option_map};
 ghost use Rattle.std.specs.Borrow.{sem};
 ghost use Rattle.std.specs.List.{find};
-ghost use Rattle.csl_tree.specs.Search.{preorder, is_names, elem_of};
+ghost use Rattle.csl_tree.specs.Search as spec;
 ghost use Rattle.csl_tree.specs.Places.{child_at};
 ghost use Rattle.csl_tree.specs.FindNames.{is_here, is_found, find_of_child, find_at, found_or, names_find, names_below, names_index, names_items, lends_names_items, lends_names_child, lends_elem, lends_that_names, lends_names, any_is_here, here_index, first_names};
 
@@ -38,7 +38,7 @@ impl ElemChild {
     fn elem_mut(&mut self) -> &mut Elem
         requires { IsTrue (is_here (find_of_child self.old)) }
         ensures* writes_back { sem 𝓛 (lends_elem self.entry result) }
-        ensures value { Some result.now ≡ elem_of self.old }
+        ensures value { Some result.now ≡ spec.elem_of self.old }
     {
         match self {
             ElemChild::Elem(elem) => elem,
@@ -132,7 +132,8 @@ impl ElemChildren {
     /// changes through it.
     pub fn find_names_mut(&mut self) -> Option<&mut Elem>
         ensures* writes_back { sem 𝓛 (lends_names self.entry result) }
-        ensures value { option_map (λ e. e.now) result ≡ find is_names (preorder self.old) }
+        ensures value { option_map (λ e. e.now) result
+            ≡ find spec.is_names (spec.preorder self.old) }
     {
         if self.names_at().is_some() {
             Some(self.existing_names_mut())

@@ -4,7 +4,7 @@
 ghost use Rattle.std.specs.Prelude.{◌≡◌, ◌+◌, ◌<◌, ◌≤◌, not, [], ◌∷◌, length, take, drop, OnOk, IfOk, OnErr, vec_len, vec_capacity};
 ghost use Rattle.std.specs.Bool.{OnTrue, OnFalse};
 ghost use Rattle.csl_tree.specs.Content.{◌++>◌, text_content, child_content, elem_content, affixed_content};
-ghost use Rattle.csl_tree.specs.Tokens.{tokens, child_tokens, text, optional_meta, has_children, has_text, ends_in_white_space, leaf_text, last_char};
+ghost use Rattle.csl_tree.specs.Tokens as spec;
 ghost use Rattle.csl_tree.specs.Flat.{only_root, with_tokens, open_part, close_part, discard_part, affix_content};
 ghost use Rattle.csl_tree.specs.FlatChildren.{content_of};
 
@@ -66,7 +66,7 @@ fn put_text(children: &mut Vec<ElemChild>, at: usize, text: Option<Formatted>)
 
 /// The last character of the leaf text of children.
 fn last_char(children: &[ElemChild]) -> Option<char>
-    ensures { result ≡ last_char (leaf_text (content_of children.now)) }
+    ensures { result ≡ spec.last_char (spec.leaf_text (content_of children.now)) }
 {
     let mut i = children.len();
     while i > 0 {
@@ -101,21 +101,21 @@ impl FlatTree {
 
     /// Whether the innermost part has no children.
     pub fn is_empty(&self) -> bool
-        ensures { result ≡ not (has_children self.now.inner) }
+        ensures { result ≡ not (spec.has_children self.now.inner) }
     {
         self.children.len() == self.start
     }
 
     /// Whether the leaf text of the innermost part is not empty.
     pub fn has_text(&self) -> bool
-        ensures { result ≡ has_text self.now.inner }
+        ensures { result ≡ spec.has_text self.now.inner }
     {
         last_char(&self.children[self.start..]).is_some()
     }
 
     /// Whether the leaf text of the innermost part ends in white space.
     pub fn ends_in_white_space(&self) -> bool
-        ensures { result ≡ ends_in_white_space self.now.inner }
+        ensures { result ≡ spec.ends_in_white_space self.now.inner }
     {
         match last_char(&self.children[self.start..]) {
             Some(c) => c.is_whitespace(),
@@ -127,7 +127,7 @@ impl FlatTree {
     /// formatting. Returns whether it is.
     fn join_end(&mut self, more: &str, formatting: Formatting) -> Result<bool, Memory>
         ensures joins { IfOk result (λ did. OnTrue did
-            (self.new ≡ with_tokens (text more.now formatting ∷ []) self.old)) }
+            (self.new ≡ with_tokens (spec.text more.now formatting ∷ []) self.old)) }
         ensures unchanged { IfOk result (λ did. OnFalse did (self.new ≡ self.old)) }
         ensures err { OnErr result (self.new ≡ self.old) }
     {
@@ -141,7 +141,7 @@ impl FlatTree {
 
     /// Appends a child as it is.
     fn push_child(&mut self, child: ElemChild) -> Result<(), Memory>
-        ensures ok { OnOk result (self.new ≡ with_tokens (child_tokens child) self.old) }
+        ensures ok { OnOk result (self.new ≡ with_tokens (spec.child_tokens child) self.old) }
         ensures err { OnErr result (self.new ≡ self.old) }
     {
         self.children.push(child)?;
@@ -227,7 +227,7 @@ impl FlatTree {
     ) -> Result<(), Memory>
         requires is_open { 0 < length self.old.outer }
         ensures ok { OnOk result
-            (self.new ≡ close_part (elem_content display (optional_meta meta) self.old.inner)
+            (self.new ≡ close_part (elem_content display (spec.optional_meta meta) self.old.inner)
             self.old) }
         ensures err { OnErr result (self.new ≡ self.old) }
     {
@@ -285,7 +285,7 @@ impl FlatTree {
     /// [`Memory`]: out of memory. The content is dropped.
     pub fn finish(self) -> Result<ElemChildren, Memory>
         requires root { length self.outer ≡ 0 }
-        ensures { IfOk result (λ children. tokens children ≡ self.inner) }
+        ensures { IfOk result (λ children. spec.tokens children ≡ self.inner) }
     {
         let mut children = self.children;
         join_texts(&mut children, 0)?;

@@ -4,8 +4,7 @@
 ghost use Rattle.std.specs.Prelude.{◌≡◌, ◌<◌, Some, IsTrue, is_some, option_map, vec_len};
 ghost use Rattle.std.specs.Borrow.{sem};
 ghost use Rattle.csl_tree.specs.Search.{last_text};
-ghost use Rattle.csl_tree.specs.Places.{children_of, text_of_child, lends_children, lends_text, child_at, lends_items};
-ghost use Rattle.csl_tree.specs.Places.{last, ends_in_elem, last_items, lends_last_child, lends_last_items, lends_last_text, lends_that_text};
+ghost use Rattle.csl_tree.specs.Places as spec;
 
 use crate::elem::{ElemChild, ElemChildren};
 use crate::formatting::Formatted;
@@ -13,9 +12,9 @@ use crate::formatting::Formatted;
 impl ElemChild {
     /// The children of a child that is an element, as a mutable reference.
     pub(crate) fn children_mut(&mut self) -> &mut ElemChildren
-        requires { IsTrue (is_some (children_of self.old)) }
-        ensures* writes_back { sem 𝓛 (lends_children self.entry result) }
-        ensures value { Some result.now ≡ children_of self.old }
+        requires { IsTrue (is_some (spec.children_of self.old)) }
+        ensures* writes_back { sem 𝓛 (spec.lends_children self.entry result) }
+        ensures value { Some result.now ≡ spec.children_of self.old }
     {
         match self {
             ElemChild::Elem(elem) => &mut elem.children,
@@ -25,9 +24,9 @@ impl ElemChild {
 
     /// The formatted text of a child that is a text, as a mutable reference.
     fn text_mut(&mut self) -> &mut Formatted
-        requires { IsTrue (is_some (text_of_child self.old)) }
-        ensures* writes_back { sem 𝓛 (lends_text self.entry result) }
-        ensures value { Some result.now ≡ text_of_child self.old }
+        requires { IsTrue (is_some (spec.text_of_child self.old)) }
+        ensures* writes_back { sem 𝓛 (spec.lends_text self.entry result) }
+        ensures value { Some result.now ≡ spec.text_of_child self.old }
     {
         match self {
             ElemChild::Text(text) => text,
@@ -39,7 +38,7 @@ impl ElemChild {
 impl ElemChildren {
     /// Whether the last child is an element.
     fn ends_in_elem(&mut self) -> bool
-        ensures value { result ≡ ends_in_elem self.old }
+        ensures value { result ≡ spec.ends_in_elem self.old }
         ensures unchanged { self.new ≡ self.old }
     {
         matches!(self.0.last(), Some(ElemChild::Elem(_)))
@@ -48,8 +47,8 @@ impl ElemChildren {
     /// The last child, as a mutable reference.
     fn last_child_mut(&mut self) -> &mut ElemChild
         requires { 0 < vec_len self.old.0 }
-        ensures* writes_back { sem 𝓛 (lends_last_child self.entry result) }
-        ensures value { result.now ≡ child_at self.old (last self.old) }
+        ensures* writes_back { sem 𝓛 (spec.lends_last_child self.entry result) }
+        ensures value { result.now ≡ spec.child_at self.old (spec.last self.old) }
     {
         let last = self.0.len() - 1;
         &mut self.0[last]
@@ -57,7 +56,7 @@ impl ElemChildren {
 
     /// The list of the children, as a mutable reference.
     pub(crate) fn items_mut(&mut self) -> &mut Vec<ElemChild>
-        ensures* writes_back { sem 𝓛 (lends_items self.entry result) }
+        ensures* writes_back { sem 𝓛 (spec.lends_items self.entry result) }
         ensures value { result.now ≡ self.old.0 }
     {
         &mut self.0
@@ -67,8 +66,8 @@ impl ElemChildren {
     /// down the last child as long as that is an element.
     #[cycle(inner)]
     fn last_items_mut(&mut self) -> &mut Vec<ElemChild>
-        ensures* writes_back { sem 𝓛 (lends_last_items self.entry result) }
-        ensures value { result.now ≡ last_items self.old }
+        ensures* writes_back { sem 𝓛 (spec.lends_last_items self.entry result) }
+        ensures value { result.now ≡ spec.last_items self.old }
     {
         if self.ends_in_elem() {
             self.last_child_mut().children_mut().last_items_mut()
@@ -80,7 +79,7 @@ impl ElemChildren {
     /// The last text, as a mutable reference. There must be one.
     fn existing_text_mut(&mut self) -> &mut Formatted
         requires { IsTrue (is_some (last_text self.old)) }
-        ensures* writes_back { sem 𝓛 (lends_that_text self.entry result) }
+        ensures* writes_back { sem 𝓛 (spec.lends_that_text self.entry result) }
         ensures value { Some result.now ≡ last_text self.old }
     {
         let items = self.last_items_mut();
@@ -91,7 +90,7 @@ impl ElemChildren {
 
     /// The text that `last_text` finds, as a mutable reference.
     pub fn last_text_mut(&mut self) -> Option<&mut Formatted>
-        ensures* writes_back { sem 𝓛 (lends_last_text self.entry result) }
+        ensures* writes_back { sem 𝓛 (spec.lends_last_text self.entry result) }
         ensures value { option_map (λ t. t.now) result ≡ last_text self.old }
     {
         if self.last_text().is_some() {

@@ -2,9 +2,7 @@
 
 ghost use Rattle.std.specs.Prelude.{◌≡◌, ◌<◌, ◌++◌, length, Option, None, IfSome, IfNone};
 ghost use Rattle.csl_tree.specs.Escapes.{escape_all};
-ghost use Rattle.csl_tree.specs.Marks.{reference_at, byte_at, texts_found, as_text, IsAfterText};
-ghost use Rattle.csl_tree.specs.Marks.{div_at, span_at, read_end_tag, after_weight, after_align, after_css, rest_found, values_found};
-ghost use Rattle.csl_tree.specs.Marks.{after, IsAfterAnchor, IsStart, BeginsNoStart, IsMark, BeginsNoPiece};
+ghost use Rattle.csl_tree.specs.Marks as spec;
 
 use crate::escapes::split_plain;
 
@@ -28,7 +26,7 @@ pub enum Mark<'a> {
 /// The character of the reference that HTML begins with, and the rest.
 #[tactic(auto, unfolding(crate::specs::Marks::reference_at), using(crate::proofs::Fronts::stripped))]
 fn reference_at(html: &str) -> Option<(&'static str, &str)>
-    ensures { texts_found result ≡ as_text (reference_at html.now) }
+    ensures { spec.texts_found result ≡ spec.as_text (spec.reference_at html.now) }
 {
     if let Some(rest) = html.strip_prefix("&amp;") {
         return Some(("&", rest));
@@ -50,7 +48,7 @@ fn reference_at(html: &str) -> Option<(&'static str, &str)>
 fn text_at(html: &str) -> Option<(&str, &str)>
     ensures found { IfSome result (λ x. (0 < length x.0.now) ×
         (html.now ≡ escape_all x.0.now ++ x.1.now)) }
-    ensures none { IfNone result (byte_at html.now ≡ None) }
+    ensures none { IfNone result (spec.byte_at html.now ≡ None) }
 {
     let (plain, rest) = split_plain(html);
     if !plain.is_empty() {
@@ -61,7 +59,7 @@ fn text_at(html: &str) -> Option<(&str, &str)>
 
 /// The rest after all text that HTML begins with.
 fn after_text(html: &str) -> &str
-    ensures { IsAfterText html.now result.now }
+    ensures { spec.IsAfterText html.now result.now }
 {
     let mut rest = html;
     while let Some((_, next)) = text_at(rest) {
@@ -73,7 +71,7 @@ fn after_text(html: &str) -> &str
 /// The rest after the start tag of a `div`, if HTML begins with one.
 #[tactic(auto, unfolding(crate::specs::Marks::div_at), using(crate::proofs::Fronts::stripped))]
 fn after_div(html: &str) -> Option<&str>
-    ensures { rest_found result ≡ div_at html.now }
+    ensures { spec.rest_found result ≡ spec.div_at html.now }
 {
     if let Some(rest) = html.strip_prefix("<div>") {
         return Some(rest);
@@ -90,7 +88,7 @@ fn after_div(html: &str) -> Option<&str>
 /// The rest after a declaration, or all of `css` if the declaration is absent.
 #[tactic(auto, using(crate::proofs::Fronts::stripped))]
 fn after<'a>(css: &'a str, declaration: &str) -> &'a str
-    ensures { result.now ≡ after declaration.now css.now }
+    ensures { result.now ≡ spec.after declaration.now css.now }
 {
     css.strip_prefix(declaration).unwrap_or(css)
 }
@@ -98,7 +96,7 @@ fn after<'a>(css: &'a str, declaration: &str) -> &'a str
 /// The rest after the declaration of a weight, which may be absent.
 #[tactic(auto, using(crate::proofs::Fronts::stripped))]
 fn after_weight(css: &str) -> &str
-    ensures { result.now ≡ after_weight css.now }
+    ensures { result.now ≡ spec.after_weight css.now }
 {
     if let Some(rest) = css.strip_prefix("font-weight: bold;") {
         return rest;
@@ -109,7 +107,7 @@ fn after_weight(css: &str) -> &str
 /// The rest after the declaration of an alignment, which may be absent.
 #[tactic(auto, using(crate::proofs::Fronts::stripped))]
 fn after_align(css: &str) -> &str
-    ensures { result.now ≡ after_align css.now }
+    ensures { result.now ≡ spec.after_align css.now }
 {
     if let Some(rest) = css.strip_prefix("vertical-align: super;") {
         return rest;
@@ -120,7 +118,7 @@ fn after_align(css: &str) -> &str
 /// The rest after the declarations of a formatting. Any of them may be absent.
 #[tactic(auto, unfolding(crate::specs::Marks::after_css))]
 fn after_css(css: &str) -> &str
-    ensures { result.now ≡ after_css css.now }
+    ensures { result.now ≡ spec.after_css css.now }
 {
     let css = after(css, "font-style: italic;");
     let css = after_weight(css);
@@ -132,7 +130,7 @@ fn after_css(css: &str) -> &str
 /// The rest after the start tag of a `span`, if HTML begins with one.
 #[tactic(auto, unfolding(crate::specs::Marks::span_at), using(crate::proofs::Fronts::stripped))]
 fn after_span(html: &str) -> Option<&str>
-    ensures { rest_found result ≡ span_at html.now }
+    ensures { spec.rest_found result ≡ spec.span_at html.now }
 {
     let css = html.strip_prefix("<span style=\"")?;
     after_css(css).strip_prefix("\">")
@@ -140,7 +138,7 @@ fn after_span(html: &str) -> Option<&str>
 
 /// The rest after the start tag of an anchor, if HTML begins with one.
 fn after_anchor(html: &str) -> Option<&str>
-    ensures { IsAfterAnchor html.now (rest_found result) }
+    ensures { spec.IsAfterAnchor html.now (spec.rest_found result) }
 {
     let url = html.strip_prefix("<a href=\"")?;
     after_text(url).strip_prefix("\">")
@@ -148,8 +146,8 @@ fn after_anchor(html: &str) -> Option<&str>
 
 /// The element whose start tag HTML begins with, and the rest.
 fn read_start_tag(html: &str) -> Option<(Element, &str)>
-    ensures found { IfSome result (λ x. IsStart html.now x.0 x.1.now) }
-    ensures none { IfNone result (BeginsNoStart html.now) }
+    ensures found { IfSome result (λ x. spec.IsStart html.now x.0 x.1.now) }
+    ensures none { IfNone result (spec.BeginsNoStart html.now) }
 {
     if let Some(rest) = after_div(html) {
         return Some((Element::Div, rest));
@@ -166,7 +164,7 @@ fn read_start_tag(html: &str) -> Option<(Element, &str)>
 /// The element whose end tag HTML begins with, and the rest.
 #[tactic(auto, unfolding(crate::specs::Marks::read_end_tag), using(crate::proofs::Fronts::stripped))]
 fn read_end_tag(html: &str) -> Option<(Element, &str)>
-    ensures { values_found result ≡ read_end_tag html.now }
+    ensures { spec.values_found result ≡ spec.read_end_tag html.now }
 {
     if let Some(rest) = html.strip_prefix("</div>") {
         return Some((Element::Div, rest));
@@ -182,8 +180,8 @@ fn read_end_tag(html: &str) -> Option<(Element, &str)>
 
 /// The tag or the text that HTML begins with, and the rest.
 pub fn read_piece(html: &str) -> Option<(Mark<'_>, &str)>
-    ensures found { IfSome result (λ x. IsMark html.now x.0 x.1.now) }
-    ensures none { IfNone result (BeginsNoPiece html.now) }
+    ensures found { IfSome result (λ x. spec.IsMark html.now x.0 x.1.now) }
+    ensures none { IfNone result (spec.BeginsNoPiece html.now) }
 {
     if let Some((text, rest)) = text_at(html) {
         return Some((Mark::Text(text), rest));

@@ -1,7 +1,8 @@
 //! A caller's own type as an entry. Its answers are defined once, in `specs/Film.antt`.
 
 ghost use Rattle.std.specs.Prelude.{◌≡◌, IfOk, string_bytes};
-ghost use Rattle.csl_uses.specs.Film.{IsMetropolis, answers_of, title_of};
+ghost use Rattle.csl_uses.specs.Film as spec;
+ghost use Rattle.csl_uses.specs.Film.{answers_of};
 
 use csl::literature::{
     ChunkedString, Date, LongShortForm, MaybeTyped, Numeric, PageRanges, Person,
@@ -108,7 +109,7 @@ impl EntryLike for Film {
 /// [`Error::Memory`]: out of memory.
 /// [`Error::DateOutOfRange`]: the month or the day is out of range.
 pub fn metropolis(alloc: Global) -> Result<Film, Error>
-    ensures { IfOk result IsMetropolis }
+    ensures { IfOk result spec.IsMetropolis }
 {
     // Months and days count from 0: this is the tenth of January.
     let shown = Date::new(1927, Some(0), Some(9), None, false).ok_or(Error::DateOutOfRange)?;
@@ -122,7 +123,7 @@ pub fn metropolis(alloc: Global) -> Result<Film, Error>
 
 /// The title of an entry of any type, with its pieces joined. It is empty if the entry has none.
 pub fn title_of<T: EntryLike>(alloc: Global, entry: &T) -> Result<String, Memory>
-    ensures { IfOk result (λ title. string_bytes title ≡ title_of (T.answers entry.now)) }
+    ensures { IfOk result (λ title. string_bytes title ≡ spec.title_of (T.answers entry.now)) }
 {
     let long = LongShortForm::Long;
     match entry.resolve_standard_variable(alloc, long, StandardVariable::Title)? {

@@ -2,7 +2,7 @@
 //! Definitions: specs/Cite.antt.
 
 ghost use Rattle.std.specs.Prelude.{◌≡◌, IfOk, string_bytes};
-ghost use Rattle.csl_uses.specs.Cite.{in_text, part_of_cite};
+ghost use Rattle.csl_uses.specs.Cite as spec;
 
 use csl::literature::Entry;
 use csl::style::{
@@ -64,7 +64,7 @@ fn part_of_cite<T: EntryLike>(
     entry: &T,
     form: SpecialForm,
 ) -> Result<String, Error>
-    ensures { IfOk result (λ text. string_bytes text ≡ part_of_cite style.now form
+    ensures { IfOk result (λ text. string_bytes text ≡ spec.part_of_cite style.now form
         (T.answers entry.now)) }
 {
     let first = CiteProperties::first(DisambiguateState::None);
@@ -77,7 +77,8 @@ fn part_of_cite<T: EntryLike>(
 /// # Errors
 /// [`Error::Memory`]: out of memory, here or in the entry.
 pub fn cite_in_text<T: EntryLike>(alloc: Global, style: &Style, entry: &T) -> Result<String, Error>
-    ensures { IfOk result (λ text. string_bytes text ≡ in_text style.now (T.answers entry.now)) }
+    ensures { IfOk result (λ text. string_bytes text
+        ≡ spec.in_text style.now (T.answers entry.now)) }
 {
     let authors = SpecialForm::VarOnly(NameVariable::Author.into());
     let authors = part_of_cite(alloc, style, entry, authors)?;

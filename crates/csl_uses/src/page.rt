@@ -3,7 +3,8 @@
 ghost use Rattle.std.specs.Prelude.{◌≡◌, IfOk, filter, not, string_bytes};
 ghost use Rattle.std.specs.Str.{NonePass, chars};
 ghost use Rattle.csl.specs.Tree.Tokens.{tokens, leaf_text};
-ghost use Rattle.csl_uses.specs.Page.{answers_of, is_direction_control, numbered_line};
+ghost use Rattle.csl_uses.specs.Page as spec;
+ghost use Rattle.csl_uses.specs.Page.{answers_of};
 
 use crate::links;
 use csl::entry::SpeculativeCiteProperties;
@@ -239,7 +240,7 @@ fn list_line<T: EntryLike>(
     place: usize,
 ) -> Result<ElemChildren, Error>
     ensures { IfOk result (λ line. leaf_text (tokens line)
-        ≡ leaf_text (numbered_line style.now place (T.answers entry.now))) }
+        ≡ leaf_text (spec.numbered_line style.now place (T.answers entry.now))) }
 {
     let Ok(place) = u32::try_from(place) else {
         return Err(Error::NotNumeric);
@@ -264,7 +265,7 @@ fn list_line<T: EntryLike>(
 /// Whether a character turns the direction of writing until another one ends that, or is such an
 /// end. An end also closes the isolate that a browser opens for an element.
 fn is_direction_control(c: char) -> bool
-    ensures { result ≡ is_direction_control c }
+    ensures { result ≡ spec.is_direction_control c }
 {
     matches!(c, '\u{202A}'..='\u{202E}' | '\u{2066}'..='\u{2069}')
 }
@@ -272,7 +273,7 @@ fn is_direction_control(c: char) -> bool
 /// Drops the direction controls. An address has none either (RFC 3987, 4.1).
 fn drop_direction_controls(html: &mut String)
     ensures { chars (string_bytes html.new)
-        ≡ filter (λ c. not (is_direction_control c)) (chars (string_bytes html.old)) }
+        ≡ filter (λ c. not (spec.is_direction_control c)) (chars (string_bytes html.old)) }
 {
     html.retain(|c| !is_direction_control(c));
 }
@@ -291,7 +292,7 @@ pub fn line_with_links_to<T: EntryLike>(
     place: usize,
     hosts: &[&str],
 ) -> Result<String, Error>
-    ensures { IfOk result (λ html. NonePass is_direction_control (chars (string_bytes html))) }
+    ensures { IfOk result (λ html. NonePass spec.is_direction_control (chars (string_bytes html))) }
 {
     let line = list_line(alloc, style, entry, place)?;
     let line = links::with_links_to(alloc, line, hosts)?;
@@ -309,7 +310,7 @@ pub fn line_with_links_to<T: EntryLike>(
 /// [`Error::Refused`]: out of memory while a line is added to the page.
 #[tactic(auto, using(crate::proofs::Directions::none_left))]
 pub fn page<T: EntryLike>(alloc: Global, style: &Style, entries: &[T]) -> Result<String, Error>
-    ensures { IfOk result (λ html. NonePass is_direction_control (chars (string_bytes html))) }
+    ensures { IfOk result (λ html. NonePass spec.is_direction_control (chars (string_bytes html))) }
 {
     let mut html = String::from_str(alloc, HEAD)?;
     for (place, entry) in entries.iter().enumerate() {

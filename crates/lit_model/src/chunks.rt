@@ -3,7 +3,7 @@
 ghost use Rattle.std.specs.Prelude.{◌≡◌, string_bytes, chars, IfOk};
 ghost use Rattle.std.specs.Char.{is_whitespace};
 ghost use Rattle.std.specs.List.{list_all};
-ghost use Rattle.lit_model.specs.Chunks.{chunks_text, is_empty, is_white_space};
+ghost use Rattle.lit_model.specs.Chunks as spec;
 ghost use Rattle.lit_model.specs.Text.{chunks};
 
 use crate::text::ChunkedString;
@@ -13,7 +13,7 @@ use std::alloc::Global;
 impl ChunkedString {
     /// The whole text: the texts of the chunks, one after another.
     pub fn to_text(&self, alloc: Global) -> Result<String, Memory>
-        ensures { IfOk result (λ text. string_bytes text ≡ chunks_text (chunks self.now)) }
+        ensures { IfOk result (λ text. string_bytes text ≡ spec.chunks_text (chunks self.now)) }
     {
         let mut text = String::new(alloc);
         for chunk in &self.0 {
@@ -24,7 +24,7 @@ impl ChunkedString {
 
     /// Whether the text is empty: there is no chunk, or each is empty.
     pub fn is_empty(&self) -> bool
-        ensures { result ≡ is_empty (chunks self.now) }
+        ensures { result ≡ spec.is_empty (chunks self.now) }
     {
         for chunk in &self.0 {
             if !chunk.value.is_empty() {
@@ -37,7 +37,7 @@ impl ChunkedString {
     /// Whether each character of the text is white space (Unicode White_Space); true if it is
     /// empty.
     pub fn is_white_space(&self) -> bool
-        ensures { result ≡ is_white_space (chunks self.now) }
+        ensures { result ≡ spec.is_white_space (chunks self.now) }
     {
         for chunk in &self.0 {
             if !is_white_space(chunk.value.as_str()) {

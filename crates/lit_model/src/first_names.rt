@@ -3,7 +3,7 @@
 ghost use Rattle.std.specs.Prelude.{◌≡◌, true, option_copied, chars, OnOk, OnErr};
 ghost use Rattle.unicode.specs.GeneralCategory.{general_category};
 ghost use Rattle.std.specs.Fmt.{WritesInCalls};
-ghost use Rattle.lit_model.specs.FirstNames.{is_capital, is_single_capital, without_dot, single_letter, last_letter_or_word, lettered_words, person_first_name};
+ghost use Rattle.lit_model.specs.FirstNames as spec;
 ghost use Rattle.lit_model.specs.Initials.{given_words};
 ghost use Rattle.lit_model.specs.Marked.{gap_after};
 ghost use Rattle.lit_model.specs.Person.{person_view};
@@ -14,7 +14,7 @@ use std::fmt;
 use unicode::properties::GeneralCategory;
 
 fn is_capital(c: char) -> bool
-    ensures { result ≡ is_capital (general_category c) }
+    ensures { result ≡ spec.is_capital (general_category c) }
 {
     matches!(
         GeneralCategory::for_char(c),
@@ -24,7 +24,7 @@ fn is_capital(c: char) -> bool
 
 /// Whether the text is one uppercase letter.
 fn is_single_capital(text: &str) -> bool
-    ensures { result ≡ is_single_capital (chars text.now) }
+    ensures { result ≡ spec.is_single_capital (chars text.now) }
 {
     let mut rest = text.chars();
     match rest.next() {
@@ -37,7 +37,7 @@ fn is_single_capital(text: &str) -> bool
 }
 
 fn without_dot(word: &str) -> &str
-    ensures { result.now ≡ without_dot word.now }
+    ensures { result.now ≡ spec.without_dot word.now }
 {
     match word.strip_suffix('.') {
         Some(front) => front,
@@ -47,7 +47,7 @@ fn without_dot(word: &str) -> &str
 
 /// The letter of a word that is one uppercase letter, with or without a dot.
 fn single_letter(word: &str) -> Option<&str>
-    ensures { option_copied result ≡ single_letter word.now }
+    ensures { option_copied result ≡ spec.single_letter word.now }
 {
     let letter = without_dot(word);
     if is_single_capital(letter) {
@@ -71,7 +71,7 @@ fn gap_after<'a>(text: &'a str, letter: Option<&str>) -> &'a str
 
 fn write_name<S: Sink>(sink: &mut S, text: &str, letter: Option<&str>, word: &str) -> fmt::Result
     ensures ok { OnOk result (WritesInCalls S.write_str_gives sink.old
-        (last_letter_or_word text.now (option_copied letter.entry) word.now) sink.new) }
+        (spec.last_letter_or_word text.now (option_copied letter.entry) word.now) sink.new) }
     ensures kept { OnOk result (S.refused sink.new ≡ S.refused sink.old) }
     ensures err { OnErr result (S.refused sink.new ≡ true) }
 {
@@ -83,7 +83,7 @@ fn write_name<S: Sink>(sink: &mut S, text: &str, letter: Option<&str>, word: &st
 
 fn write_names<S: Sink>(sink: &mut S, text: &str, given: &str) -> fmt::Result
     ensures ok { OnOk result (WritesInCalls S.write_str_gives sink.old
-        (lettered_words text.now (given_words given.now)) sink.new) }
+        (spec.lettered_words text.now (given_words given.now)) sink.new) }
     ensures kept { OnOk result (S.refused sink.new ≡ S.refused sink.old) }
     ensures err { OnErr result (S.refused sink.new ≡ true) }
 {
@@ -111,7 +111,8 @@ impl Person {
         delimiter: Option<&str>,
     ) -> fmt::Result
         ensures ok { OnOk result (WritesInCalls S.write_str_gives sink.old
-            (person_first_name (option_copied delimiter.entry) (person_view self.now)) sink.new) }
+            (spec.person_first_name (option_copied delimiter.entry) (person_view self.now))
+            sink.new) }
         ensures kept { OnOk result (S.refused sink.new ≡ S.refused sink.old) }
         ensures err { OnErr result (S.refused sink.new ≡ true) }
     {
@@ -133,7 +134,7 @@ impl Person {
         delimiter: Option<&str>,
     ) -> fmt::Result
         ensures { OnOk result (WritesInCalls W.write_str_gives w.old
-            (person_first_name (option_copied delimiter.entry) (person_view self.now)) w.new) }
+            (spec.person_first_name (option_copied delimiter.entry) (person_view self.now)) w.new) }
     {
         let mut sink = TrackingWriter::new(w);
         let result = self.first_name_with_delimiter_into(&mut sink, delimiter);

@@ -4,7 +4,7 @@ ghost use Rattle.std.specs.Prelude.{◌≡◌, true, option_to_list, option_copi
 ghost use Rattle.std.specs.Fmt.{WritesInCalls};
 ghost use Rattle.lit_model.specs.Initials.{first_grapheme, initials_of, initials, person_initials};
 ghost use Rattle.lit_model.specs.Person.{person_view};
-ghost use Rattle.lit_model.specs.Shortened.{gap, word_text, before_piece, before_word, end_text};
+ghost use Rattle.lit_model.specs.Shortened as spec;
 
 use crate::person::Person;
 use csl_common::{Sink, TrackingWriter};
@@ -34,7 +34,7 @@ struct Shortened<'a> {
 impl Shortened<'_> {
     fn write_gap<S: Sink>(&self, sink: &mut S, before: Before) -> fmt::Result
         ensures ok { OnOk result (WritesInCalls S.write_str_gives sink.old
-            (gap self.now.text.now self.now.hyphen before) sink.new) }
+            (spec.gap self.now.text.now self.now.hyphen before) sink.new) }
         ensures kept { OnOk result (S.refused sink.new ≡ S.refused sink.old) }
         ensures err { OnErr result (S.refused sink.new ≡ true) }
     {
@@ -55,9 +55,9 @@ impl Shortened<'_> {
         before: Before,
     ) -> Result<Before, fmt::Error>
         ensures place { IfOk result
-            (λ b. b ≡ before_piece before (option_to_list (first_grapheme piece.now))) }
+            (λ b. b ≡ spec.before_piece before (option_to_list (first_grapheme piece.now))) }
         ensures ok { OnOk result (WritesInCalls S.write_str_gives sink.old
-            (word_text self.now.text.now self.now.hyphen before
+            (spec.word_text self.now.text.now self.now.hyphen before
             (option_to_list (first_grapheme piece.now))) sink.new) }
         ensures kept { OnOk result (S.refused sink.new ≡ S.refused sink.old) }
         ensures err { OnErr result (S.refused sink.new ≡ true) }
@@ -80,9 +80,10 @@ impl Shortened<'_> {
         word: &str,
         before: Before,
     ) -> Result<Before, fmt::Error>
-        ensures place { IfOk result (λ b. b ≡ before_piece before (initials_of word.now)) }
+        ensures place { IfOk result (λ b. b ≡ spec.before_piece before (initials_of word.now)) }
         ensures ok { OnOk result (WritesInCalls S.write_str_gives sink.old
-            (word_text self.now.text.now self.now.hyphen before (initials_of word.now)) sink.new) }
+            (spec.word_text self.now.text.now self.now.hyphen before (initials_of word.now))
+            sink.new) }
         ensures kept { OnOk result (S.refused sink.new ≡ S.refused sink.old) }
         ensures err { OnErr result (S.refused sink.new ≡ true) }
     {
@@ -114,7 +115,7 @@ impl Shortened<'_> {
 
     fn write_end<S: Sink>(&self, sink: &mut S, place: Before) -> fmt::Result
         ensures ok { OnOk result (WritesInCalls S.write_str_gives sink.old
-            (end_text self.now.text.now place) sink.new) }
+            (spec.end_text self.now.text.now place) sink.new) }
         ensures kept { OnOk result (S.refused sink.new ≡ S.refused sink.old) }
         ensures err { OnErr result (S.refused sink.new ≡ true) }
     {
@@ -128,7 +129,7 @@ impl Shortened<'_> {
 impl Before {
     /// The position of the first initial of the next word.
     fn before_word(self) -> Before
-        ensures { result ≡ before_word self }
+        ensures { result ≡ spec.before_word self }
     {
         match self {
             Before::Nothing => Before::Nothing,

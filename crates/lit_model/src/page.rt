@@ -2,7 +2,7 @@
 
 ghost use Rattle.std.specs.Prelude.{◌≡◌, IfOk, option_map};
 ghost use Rattle.lit_model.specs.Numeric.{numeric_view};
-ghost use Rattle.lit_model.specs.Page.{part_view, pages_view, starting_page, first_page, plural_pages, is_range};
+ghost use Rattle.lit_model.specs.Page as spec;
 
 mod parse;
 mod write;
@@ -22,7 +22,7 @@ impl PageRanges {
     /// The first page: the one that the first item begins with.
     pub fn first(&self) -> Option<&Numeric>
         ensures { option_map (λ page. numeric_view page.now) result
-            ≡ first_page (pages_view self.now) }
+            ≡ spec.first_page (spec.pages_view self.now) }
     {
         for part in &self.ranges {
             if let Some(page) = part.start() {
@@ -35,7 +35,7 @@ impl PageRanges {
     /// Whether a term beside the pages is in the plural: beside a range, or beside more than one
     /// part.
     pub fn is_plural(&self) -> bool
-        ensures { result ≡ plural_pages (pages_view self.now) }
+        ensures { result ≡ spec.plural_pages (spec.pages_view self.now) }
     {
         match self.ranges.as_slice() {
             [] => false,
@@ -46,7 +46,7 @@ impl PageRanges {
 
     /// A copy.
     pub fn clone(&self, alloc: Global) -> Result<PageRanges, Memory>
-        ensures { IfOk result (λ copy. pages_view copy ≡ pages_view self.now) }
+        ensures { IfOk result (λ copy. spec.pages_view copy ≡ spec.pages_view self.now) }
     {
         let mut ranges = Vec::with_capacity(alloc, self.ranges.len())?;
         for part in &self.ranges {
@@ -61,7 +61,7 @@ impl PageRangesPart {
     /// The page that the item begins with; `None` for a separator.
     fn start(&self) -> Option<&Numeric>
         ensures { option_map (λ page. numeric_view page.now) result
-            ≡ starting_page (part_view self.now) }
+            ≡ spec.starting_page (spec.part_view self.now) }
     {
         match self {
             PageRangesPart::Ampersand | PageRangesPart::Comma => None,
@@ -73,7 +73,7 @@ impl PageRangesPart {
 
     /// Whether this is a range.
     fn is_range(&self) -> bool
-        ensures { result ≡ is_range (part_view self.now) }
+        ensures { result ≡ spec.is_range (spec.part_view self.now) }
     {
         match self {
             PageRangesPart::Ampersand | PageRangesPart::Comma | PageRangesPart::SinglePage(_) => {
@@ -85,7 +85,7 @@ impl PageRangesPart {
 
     /// A copy.
     pub fn clone(&self, alloc: Global) -> Result<PageRangesPart, Memory>
-        ensures { IfOk result (λ copy. part_view copy ≡ part_view self.now) }
+        ensures { IfOk result (λ copy. spec.part_view copy ≡ spec.part_view self.now) }
     {
         match self {
             PageRangesPart::Ampersand => Ok(PageRangesPart::Ampersand),

@@ -3,7 +3,7 @@
 ghost use Rattle.std.specs.Prelude.{◌≡◌, not, ◌||◌, ◌++◌, option_copied, string_bytes, chars, map, IfOk};
 ghost use Rattle.std.specs.List.{list_any, list_all};
 ghost use Rattle.unicode.specs.Binary.{is_alphabetic};
-ghost use Rattle.lit_model.specs.Name.{is_institutional, is_cjk_script, letters, are_cjk, is_cjk, is_particle_word, name_particle, name_without_particle, strip_article, strip_any_article, name_without_article};
+ghost use Rattle.lit_model.specs.Name as spec;
 ghost use Rattle.lit_model.specs.Person.{person_view, person_of, institution_of, role_of, role_group};
 ghost use Rattle.unicode.specs.Script.{script};
 
@@ -99,7 +99,7 @@ impl Person {
     /// Whether this is an institution: it has no given name, no prefix and no suffix, not even an
     /// empty one.
     pub fn is_institutional(&self) -> bool
-        ensures { result ≡ is_institutional (person_view self.now) }
+        ensures { result ≡ spec.is_institutional (person_view self.now) }
     {
         self.given_name.is_none() && self.prefix.is_none() && self.suffix.is_none()
     }
@@ -108,7 +108,7 @@ impl Person {
     /// together have a letter (Unicode Alphabetic), and each letter has the script Han, Hiragana,
     /// Katakana, Hangul or Bopomofo.
     pub fn is_cjk(&self) -> bool
-        ensures { result ≡ is_cjk (person_view self.now) }
+        ensures { result ≡ spec.is_cjk (person_view self.now) }
     {
         match &self.given_name {
             Some(given) => is_cjk_name(self.name.as_str(), given.as_str()),
@@ -120,7 +120,7 @@ impl Person {
     /// each space. The particle is the longest run of words at the front that each begin with a
     /// lowercase letter (general category Ll). The last word is never part of it.
     pub fn name_particle(&self) -> Option<&str>
-        ensures { option_copied result ≡ name_particle (string_bytes self.now.name) }
+        ensures { option_copied result ≡ spec.name_particle (string_bytes self.now.name) }
     {
         let name = self.name.as_str();
         let rest = self.name_without_particle();
@@ -133,7 +133,7 @@ impl Person {
 
     /// The name after its particle and one space; the whole name if it has no particle.
     pub fn name_without_particle(&self) -> &str
-        ensures { result.now ≡ name_without_particle (string_bytes self.now.name) }
+        ensures { result.now ≡ spec.name_without_particle (string_bytes self.now.name) }
     {
         let mut rest = self.name.as_str();
         while let Some((word, after)) = rest.split_once(' ') {
@@ -149,7 +149,7 @@ impl Person {
     /// and `An`, with or without a capital. It is the whole name if there is no article or nothing
     /// follows it.
     pub fn name_without_article(&self) -> &str
-        ensures { result.now ≡ name_without_article (string_bytes self.now.name) }
+        ensures { result.now ≡ spec.name_without_article (string_bytes self.now.name) }
     {
         let name = self.name.as_str();
         strip_any_article(&["The ", "the ", "A ", "a ", "An ", "an "], name).unwrap_or(name)
@@ -248,7 +248,7 @@ pub(crate) fn copy_groups(
 }
 
 fn is_cjk_script(script: Script) -> bool
-    ensures { result ≡ is_cjk_script script }
+    ensures { result ≡ spec.is_cjk_script script }
 {
     matches!(
         script,
@@ -257,7 +257,7 @@ fn is_cjk_script(script: Script) -> bool
 }
 
 fn is_cjk_name(name: &str, given: &str) -> bool
-    ensures { result ≡ are_cjk (letters name.now ++ letters given.now) }
+    ensures { result ≡ spec.are_cjk (spec.letters name.now ++ spec.letters given.now) }
 {
     if !has_letter(name) && !has_letter(given) {
         return false;
@@ -274,14 +274,14 @@ fn has_letter(text: &str) -> bool
 /// Whether each letter of the text is of a Chinese, Japanese or Korean script.
 fn is_cjk_text(text: &str) -> bool
     ensures { result
-        ≡ list_all (λ c. not (is_alphabetic c) || is_cjk_script (script c)) (chars text.now) }
+        ≡ list_all (λ c. not (is_alphabetic c) || spec.is_cjk_script (script c)) (chars text.now) }
 {
     text.chars().all(|c| !is_alphabetic(c) || is_cjk_script(Script::for_char(c)))
 }
 
 /// Whether the word begins with a lowercase letter.
 fn is_particle_word(word: &str) -> bool
-    ensures { result ≡ is_particle_word word.now }
+    ensures { result ≡ spec.is_particle_word word.now }
 {
     match word.chars().next() {
         Some(first) => matches!(
@@ -294,7 +294,7 @@ fn is_particle_word(word: &str) -> bool
 
 /// The text after `article`, if the text begins with it and more follows.
 fn strip_article<'a>(article: &str, text: &'a str) -> Option<&'a str>
-    ensures { option_copied result ≡ strip_article article.now text.now }
+    ensures { option_copied result ≡ spec.strip_article article.now text.now }
 {
     let rest = text.strip_prefix(article)?;
     if rest.is_empty() { None } else { Some(rest) }
@@ -302,7 +302,8 @@ fn strip_article<'a>(article: &str, text: &'a str) -> Option<&'a str>
 
 /// The first result of `strip_article` over the articles, if there is one.
 fn strip_any_article<'a>(articles: &[&str], text: &'a str) -> Option<&'a str>
-    ensures { option_copied result ≡ strip_any_article (map (λ a. a.now) articles.now) text.now }
+    ensures { option_copied result
+        ≡ spec.strip_any_article (map (λ a. a.now) articles.now) text.now }
 {
     for article in articles {
         if let Some(rest) = strip_article(article, text) {

@@ -4,7 +4,7 @@ ghost use Rattle.std.specs.Prelude.{◌≡◌, ◌++◌, map, option_copied, IfO
 ghost use Rattle.std.specs.List.{list_all};
 ghost use Rattle.lit_model.specs.Entry.{role_groups};
 ghost use Rattle.lit_model.specs.Person.{same_role, with_role};
-ghost use Rattle.lit_model.specs.Select.{clause_view, is_among, has_field, has_parent, parent_among, fits, bound_by, bound_select, matches, container, collection, original, event, chapter, part, volume_title, audio_video, is_untitled_part, container_of, collection_of, full_of};
+ghost use Rattle.lit_model.specs.Select as spec;
 
 use crate::entry::Entry;
 use crate::entry_type::EntryType;
@@ -92,7 +92,7 @@ static CONTAINER: [Clause<'static>; 5] = [
 /// The clauses for the container of an entry: the book of a chapter, the journal of an article, the
 /// site of anything.
 fn container() -> &'static [Clause<'static>]
-    ensures { map clause_view result.now ≡ container }
+    ensures { map spec.clause_view result.now ≡ spec.container }
 {
     &CONTAINER
 }
@@ -117,7 +117,7 @@ static COLLECTION: [Clause<'static>; 1] = [Clause {
 
 /// The clauses for the collection of a work without a container.
 fn collection() -> &'static [Clause<'static>]
-    ensures { map clause_view result.now ≡ collection }
+    ensures { map spec.clause_view result.now ≡ spec.collection }
 {
     &COLLECTION
 }
@@ -131,7 +131,7 @@ static ORIGINAL: [Clause<'static>; 1] = [Clause {
 
 /// The clauses for the work that an entry translates or reprints.
 fn original() -> &'static [Clause<'static>]
-    ensures { map clause_view result.now ≡ original }
+    ensures { map spec.clause_view result.now ≡ spec.original }
 {
     &ORIGINAL
 }
@@ -149,7 +149,7 @@ static EVENT: [Clause<'static>; 1] = [Clause {
 
 /// The clauses for the event of a work: its first parent of type Exhibition, Conference or Misc.
 pub fn event() -> &'static [Clause<'static>]
-    ensures { map clause_view result.now ≡ event }
+    ensures { map spec.clause_view result.now ≡ spec.event }
 {
     &EVENT
 }
@@ -184,7 +184,7 @@ static CHAPTER: [Clause<'static>; 4] = [
 /// The clauses for an entry whose volume is a chapter number: a work of type Anthos in an
 /// anthology, an article in proceedings, or anything in a work of reference or a book.
 pub fn chapter() -> &'static [Clause<'static>]
-    ensures { map clause_view result.now ≡ chapter }
+    ensures { map spec.clause_view result.now ≡ spec.chapter }
 {
     &CHAPTER
 }
@@ -204,7 +204,7 @@ static PART: [Clause<'static>; 1] = [Clause {
 /// The clauses for an entry whose volume is a part number: anything in an article, a blog, a book
 /// or a law.
 pub fn part() -> &'static [Clause<'static>]
-    ensures { map clause_view result.now ≡ part }
+    ensures { map spec.clause_view result.now ≡ spec.part }
 {
     &PART
 }
@@ -240,7 +240,7 @@ static VOLUME_TITLE: [Clause<'static>; 4] = [
 /// an anthology, of an entry (type Entry) in anything, of anything in a work of reference, or of an
 /// article in proceedings.
 pub fn volume_title() -> &'static [Clause<'static>]
-    ensures { map clause_view result.now ≡ volume_title }
+    ensures { map spec.clause_view result.now ≡ spec.volume_title }
 {
     &VOLUME_TITLE
 }
@@ -263,21 +263,21 @@ static AUDIO_VIDEO: [Clause<'static>; 2] = [
 /// The clauses for the recording: the first parent of type Audio or Video, else the entry itself if
 /// it is of such a type.
 pub fn audio_video() -> &'static [Clause<'static>]
-    ensures { map clause_view result.now ≡ audio_video }
+    ensures { map spec.clause_view result.now ≡ spec.audio_video }
 {
     &AUDIO_VIDEO
 }
 
 /// Whether the type is in the list. An empty list means every type.
 fn is_among(entry_type: EntryType, types: &[EntryType]) -> bool
-    ensures { result ≡ is_among entry_type types.now }
+    ensures { result ≡ spec.is_among entry_type types.now }
 {
     types.is_empty() || types.contains(&entry_type)
 }
 
 impl Entry {
     fn has_field(&self, field: Field) -> bool
-        ensures { result ≡ has_field self.now field }
+        ensures { result ≡ spec.has_field self.now field }
     {
         match field {
             Field::Date => self.date.is_some(),
@@ -288,14 +288,14 @@ impl Entry {
     }
 
     fn has_fields(&self, fields: &[Field]) -> bool
-        ensures { result ≡ list_all (has_field self.now) fields.now }
+        ensures { result ≡ list_all (spec.has_field self.now) fields.now }
     {
         fields.iter().all(|field| self.has_field(*field))
     }
 
     /// The first direct parent of one of these types. An empty list means every type.
     fn parent_among(&self, types: &[EntryType]) -> Option<&Entry>
-        ensures { option_copied result ≡ parent_among types.now self.now }
+        ensures { option_copied result ≡ spec.parent_among types.now self.now }
     {
         self.parents.iter().find(|p| is_among(p.entry_type, types))
     }
@@ -305,7 +305,7 @@ impl Clause<'_> {
     /// Whether the entry has one of the types, all the fields, and the parent that is needed, if
     /// any.
     fn fits(&self, entry: &Entry) -> bool
-        ensures { result ≡ fits entry.now (clause_view self.now) }
+        ensures { result ≡ spec.fits entry.now (spec.clause_view self.now) }
     {
         is_among(entry.entry_type, self.own)
             && entry.has_fields(self.fields)
@@ -313,7 +313,7 @@ impl Clause<'_> {
     }
 
     fn has_parent(&self, entry: &Entry) -> bool
-        ensures { result ≡ has_parent (clause_view self.now).parent entry.now }
+        ensures { result ≡ spec.has_parent (spec.clause_view self.now).parent entry.now }
     {
         match self.parent {
             None => true,
@@ -324,7 +324,7 @@ impl Clause<'_> {
     /// The selection for an entry that fits the clause.
     fn bound<'e>(&self, entry: &'e Entry) -> Option<&'e Entry>
         ensures { option_copied result
-            ≡ bound_by self.now.bind (clause_view self.now).parent entry.now }
+            ≡ spec.bound_by self.now.bind (spec.clause_view self.now).parent entry.now }
     {
         match self.bind {
             Bind::Nothing => None,
@@ -337,7 +337,7 @@ impl Clause<'_> {
 impl Entry {
     /// Whether some clause fits the entry.
     pub fn matches(&self, clauses: &[Clause<'_>]) -> bool
-        ensures { result ≡ matches (map clause_view clauses.now) self.now }
+        ensures { result ≡ spec.matches (map spec.clause_view clauses.now) self.now }
     {
         for clause in clauses {
             if clause.fits(self) {
@@ -350,7 +350,8 @@ impl Entry {
     /// The selection of the first clause that fits the entry: nothing, the entry, or its first
     /// direct parent of one of the clause's parent types.
     pub fn bound_select(&self, clauses: &[Clause<'_>]) -> Option<&Entry>
-        ensures { option_copied result ≡ bound_select (map clause_view clauses.now) self.now }
+        ensures { option_copied result
+            ≡ spec.bound_select (map spec.clause_view clauses.now) self.now }
     {
         for clause in clauses {
             if clause.fits(self) {
@@ -363,7 +364,7 @@ impl Entry {
 
 impl Entry {
     fn is_untitled_part(&self) -> bool
-        ensures { result ≡ is_untitled_part self.now }
+        ensures { result ≡ spec.is_untitled_part self.now }
     {
         (self.entry_type == EntryType::Chapter || self.entry_type == EntryType::Scene)
             && self.title.is_none()
@@ -372,7 +373,7 @@ impl Entry {
     /// The whole that the entry is a part of. For a chapter or a scene without a title, it is the
     /// whole of the first parent, if there is one. For any other entry, it is the entry itself.
     pub fn get_full(&self) -> &Entry
-        ensures { result.now ≡ full_of self.now }
+        ensures { result.now ≡ spec.full_of self.now }
     {
         let mut entry = self;
         loop {
@@ -388,7 +389,7 @@ impl Entry {
 
     /// The container of the entry, such as the journal of an article.
     pub fn get_container(&self) -> Option<&Entry>
-        ensures { option_copied result ≡ container_of self.now }
+        ensures { option_copied result ≡ spec.container_of self.now }
     {
         self.bound_select(container())
     }
@@ -396,7 +397,7 @@ impl Entry {
     /// The collection of the entry: the first parent of its container if it has a container, else
     /// the parent that the clauses for a collection select.
     pub fn get_collection(&self) -> Option<&Entry>
-        ensures { option_copied result ≡ collection_of self.now }
+        ensures { option_copied result ≡ spec.collection_of self.now }
     {
         match self.get_container() {
             Some(container) => container.parents.first(),
@@ -406,7 +407,7 @@ impl Entry {
 
     /// The work that the entry translates or reprints.
     pub fn get_original(&self) -> Option<&Entry>
-        ensures { option_copied result ≡ bound_select original self.now }
+        ensures { option_copied result ≡ spec.bound_select spec.original self.now }
     {
         self.bound_select(original())
     }

@@ -1,7 +1,7 @@
 //! Texts that a style prints.
 
 ghost use Rattle.std.specs.Prelude.{◌≡◌, option_map, string_bytes, IfOk};
-ghost use Rattle.lit_model.specs.Text.{chunk_of, chunks, format_string_view, in_one_piece, plain_forms, select};
+ghost use Rattle.lit_model.specs.Text as spec;
 
 use csl_common::{LongShortForm, Memory};
 use std::alloc::Global;
@@ -43,7 +43,7 @@ pub struct FormatString {
 impl ChunkedString {
     /// A text in one piece, which a style may change.
     pub fn plain(alloc: Global, text: &str) -> Result<ChunkedString, Memory>
-        ensures { IfOk result (λ plain. chunks plain ≡ in_one_piece text.now) }
+        ensures { IfOk result (λ plain. spec.chunks plain ≡ spec.in_one_piece text.now) }
     {
         let chunk = StringChunk {
             value: String::from_str(alloc, text)?,
@@ -56,7 +56,7 @@ impl ChunkedString {
 impl FormatString {
     /// A text in one piece, which a style may change, without a short form.
     pub fn plain(alloc: Global, text: &str) -> Result<FormatString, Memory>
-        ensures { IfOk result (λ plain. format_string_view plain ≡ plain_forms text.now) }
+        ensures { IfOk result (λ plain. spec.format_string_view plain ≡ spec.plain_forms text.now) }
     {
         Ok(FormatString {
             value: ChunkedString::plain(alloc, text)?,
@@ -66,7 +66,7 @@ impl FormatString {
 
     /// The text in a form: the short form if it is requested and there is one, else the whole text.
     pub fn select(&self, form: LongShortForm) -> &ChunkedString
-        ensures { result.now ≡ select form self.now }
+        ensures { result.now ≡ spec.select form self.now }
     {
         match form {
             LongShortForm::Long => &self.value,
@@ -81,7 +81,7 @@ impl FormatString {
 impl StringChunk {
     /// A copy.
     pub fn clone(&self, alloc: Global) -> Result<StringChunk, Memory>
-        ensures { IfOk result (λ c. chunk_of c ≡ chunk_of self.now) }
+        ensures { IfOk result (λ c. spec.chunk_of c ≡ spec.chunk_of self.now) }
     {
         let value = String::from_str(alloc, self.value.as_str())?;
         Ok(StringChunk {
@@ -94,7 +94,7 @@ impl StringChunk {
 impl ChunkedString {
     /// A copy.
     pub fn clone(&self, alloc: Global) -> Result<ChunkedString, Memory>
-        ensures { IfOk result (λ t. chunks t ≡ chunks self.now) }
+        ensures { IfOk result (λ t. spec.chunks t ≡ spec.chunks self.now) }
     {
         let mut copies = Vec::with_capacity(alloc, self.0.len())?;
         for chunk in &self.0 {
@@ -107,7 +107,7 @@ impl ChunkedString {
 impl FormatString {
     /// A copy.
     pub fn clone(&self, alloc: Global) -> Result<FormatString, Memory>
-        ensures { IfOk result (λ t. format_string_view t ≡ format_string_view self.now) }
+        ensures { IfOk result (λ t. spec.format_string_view t ≡ spec.format_string_view self.now) }
     {
         let value = self.value.clone(alloc)?;
         let short = copy_short(&self.short, alloc)?;
@@ -116,7 +116,7 @@ impl FormatString {
 }
 
 fn copy_short(short: &Option<ChunkedString>, alloc: Global) -> Result<Option<ChunkedString>, Memory>
-    ensures { IfOk result (λ t. option_map chunks t ≡ option_map chunks short.now) }
+    ensures { IfOk result (λ t. option_map spec.chunks t ≡ option_map spec.chunks short.now) }
 {
     match short {
         None => Ok(None),
@@ -145,7 +145,8 @@ pub(crate) fn copy_forms(
     text: &Option<FormatString>,
     alloc: Global,
 ) -> Result<Option<FormatString>, Memory>
-    ensures { IfOk result (λ t. option_map format_string_view t ≡ option_map format_string_view text.now) }
+    ensures { IfOk result (λ t. option_map spec.format_string_view t
+        ≡ option_map spec.format_string_view text.now) }
 {
     match text {
         None => Ok(None),

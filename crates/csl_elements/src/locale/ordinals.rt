@@ -2,14 +2,15 @@
 
 ghost use Rattle.std.specs.Prelude.{◌≡◌, map, option_map};
 ghost use Rattle.csl_elements.specs.Locale.{ordinal_view, ordinals_of};
-ghost use Rattle.csl_elements.specs.Ordinals.{digits_for, is_in_group, first_of, for_gender, first_ordinals, ordinal_for, ordinals, long_ordinals};
+ghost use Rattle.csl_elements.specs.Ordinals as spec;
+ghost use Rattle.csl_elements.specs.Ordinals.{ordinals, long_ordinals};
 
 use crate::locale::{Locale, OrdinalMatch, OrdinalSlot, OrdinalTerm};
 use csl_common::{GrammarGender, Ordinals};
 
 /// The digits of a number that are compared with a slot.
 fn digits_for(matching: Option<OrdinalMatch>, slot: u8, number: u32) -> u32
-    ensures { result ≡ digits_for matching slot number }
+    ensures { result ≡ spec.digits_for matching slot number }
 {
     match matching {
         None => { if slot < 10 { number % 10 } else { number % 100 } }
@@ -31,7 +32,7 @@ pub(crate) enum OrdinalGroup {
 impl OrdinalTerm {
     /// Whether the ordinal is one of the group.
     fn is_in(&self, group: OrdinalGroup) -> bool
-        ensures { result ≡ is_in_group group (ordinal_view self.now) }
+        ensures { result ≡ spec.is_in_group group (ordinal_view self.now) }
     {
         match group {
             OrdinalGroup::Between { low, high, number } => match self.slot {
@@ -54,7 +55,7 @@ fn first_for_gender(
     gender: Option<GrammarGender>,
 ) -> Option<&OrdinalTerm>
     ensures { option_map (λ o. ordinal_view o.now) result
-        ≡ for_gender (is_in_group group) (map ordinal_view ordinals.now) gender }
+        ≡ spec.for_gender (spec.is_in_group group) (map ordinal_view ordinals.now) gender }
 {
     for ordinal in ordinals {
         if ordinal.is_in(group) && ordinal.gender == gender {
@@ -71,7 +72,7 @@ fn first_of(
     gender: Option<GrammarGender>,
 ) -> Option<&OrdinalTerm>
     ensures { option_map (λ o. ordinal_view o.now) result
-        ≡ first_of (is_in_group group) (map ordinal_view ordinals.now) gender }
+        ≡ spec.first_of (spec.is_in_group group) (map ordinal_view ordinals.now) gender }
 {
     if let Some(ordinal) = first_for_gender(ordinals, group, gender) {
         return Some(ordinal);
@@ -81,7 +82,7 @@ fn first_of(
 
 /// The ordinals of the first locale that has any.
 fn first_ordinals(locales: &[Locale]) -> &[OrdinalTerm]
-    ensures { map ordinal_view result.now ≡ first_ordinals (map ordinals_of locales.now) }
+    ensures { map ordinal_view result.now ≡ spec.first_ordinals (map ordinals_of locales.now) }
 {
     for locale in locales {
         if !locale.ordinals.is_empty() {
@@ -98,7 +99,7 @@ fn ordinal_for(
     gender: Option<GrammarGender>,
 ) -> Option<&OrdinalTerm>
     ensures { option_map (λ o. ordinal_view o.now) result
-        ≡ ordinal_for (map ordinal_view ordinals.now) number gender }
+        ≡ spec.ordinal_for (map ordinal_view ordinals.now) number gender }
 {
     let two_digits = OrdinalGroup::Between {
         low: 10,

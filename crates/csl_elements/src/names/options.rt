@@ -2,7 +2,7 @@
 //! Name Options).
 
 ghost use Rattle.std.specs.Prelude.{◌≡◌};
-ghost use Rattle.csl_elements.specs.NamesOptions.{partial_options, inherited_options, apply_options, complete_options, with_defaults, names_delimiter_of, limit_of, is_suppressed};
+ghost use Rattle.csl_elements.specs.NamesOptions as spec;
 
 use crate::names::{DelimiterBehavior, NameAnd, NameAsSortOrder, NameForm};
 
@@ -30,7 +30,7 @@ pub struct InheritableNameOptions {
 impl InheritableNameOptions {
     /// Returns the options that are set here, borrowed.
     pub fn as_inherited(&self) -> InheritedNameOptions<'_>
-        ensures { inherited_options result ≡ partial_options self.now }
+        ensures { spec.inherited_options result ≡ spec.partial_options self.now }
     {
         InheritedNameOptions {
             and: self.and,
@@ -53,8 +53,8 @@ impl InheritableNameOptions {
 
     /// Returns the options over others: each one that is set here, else that of `base`.
     pub fn apply<'s>(&'s self, base: InheritedNameOptions<'s>) -> InheritedNameOptions<'s>
-        ensures { inherited_options result
-            ≡ apply_options (partial_options self.now) (inherited_options base.entry) }
+        ensures { spec.inherited_options result
+            ≡ spec.apply_options (spec.partial_options self.now) (spec.inherited_options base.entry) }
     {
         self.as_inherited().or(base)
     }
@@ -83,8 +83,9 @@ pub struct InheritedNameOptions<'s> {
 impl<'s> InheritedNameOptions<'s> {
     /// Returns the options over others: each one that is set here, else that of `base`.
     pub fn or(self, base: InheritedNameOptions<'s>) -> InheritedNameOptions<'s>
-        ensures { inherited_options result
-            ≡ apply_options (inherited_options self.entry) (inherited_options base.entry) }
+        ensures { spec.inherited_options result
+            ≡ spec.apply_options (spec.inherited_options self.entry) (spec.inherited_options
+            base.entry) }
     {
         InheritedNameOptions {
             and: self.and.or(base.and),
@@ -113,7 +114,8 @@ impl<'s> InheritedNameOptions<'s> {
 
     /// Returns the options by which names are written: each one that is set, else its default.
     pub fn name_options(self) -> NameOptions<'s>
-        ensures { complete_options result ≡ with_defaults (inherited_options self.entry) }
+        ensures { spec.complete_options result
+            ≡ spec.with_defaults (spec.inherited_options self.entry) }
     {
         NameOptions {
             and: self.and,
@@ -139,7 +141,7 @@ impl<'s> InheritedNameOptions<'s> {
 
     /// The text between the lists of two variables. It is empty by default.
     pub fn names_delimiter(self) -> &'s str
-        ensures { result.now ≡ names_delimiter_of (inherited_options self.entry) }
+        ensures { result.now ≡ spec.names_delimiter_of (spec.inherited_options self.entry) }
     {
         self.names_delimiter.unwrap_or("")
     }
@@ -172,7 +174,8 @@ impl NameOptions<'_> {
     /// et-al-subsequent-min and et-al-subsequent-use-first replace the first two, each if it is
     /// set.
     pub fn is_suppressed(self, idx: usize, len: usize, subsequent: bool) -> bool
-        ensures { result ≡ is_suppressed (complete_options self.entry) idx len subsequent }
+        ensures { result
+            ≡ spec.is_suppressed (spec.complete_options self.entry) idx len subsequent }
     {
         let min = limit(self.et_al_min, self.et_al_subsequent_min, subsequent);
         let first = limit(
@@ -194,7 +197,7 @@ impl NameOptions<'_> {
 
 /// The limit for a cite: `later` for a subsequent one if it is set, else `own`.
 fn limit(own: Option<u32>, later: Option<u32>, subsequent: bool) -> Option<u32>
-    ensures { result ≡ limit_of own later subsequent }
+    ensures { result ≡ spec.limit_of own later subsequent }
 {
     if subsequent { later.or(own) } else { own }
 }

@@ -1,9 +1,7 @@
 //! The names of variables (CSL 1.0.2, Appendix IV: Variables).
 
 ghost use Rattle.std.specs.Prelude.{◌≡◌, ◌↔◌, Some};
-ghost use Rattle.csl_elements.specs.VariableNames.{date_name, name_variable_name, number_name};
-ghost use Rattle.csl_elements.specs.VariableNames.{page_name, standard_name, variable_name};
-ghost use Rattle.csl_elements.specs.VariableNames.{variable_spelling};
+ghost use Rattle.csl_elements.specs.VariableNames as spec;
 
 use crate::taxonomy::{
     DateVariable, NameVariable, NumberVariable, PageVariable, StandardVariable, Variable,
@@ -63,7 +61,8 @@ static STANDARD_VARIABLES: [StandardVariable; 47] = [
 impl StandardVariable {
     /// The standard variable of this name, such as `container-title`, if there is one.
     pub fn from_name(name: &str) -> Option<StandardVariable>
-        ensures { (variable : StandardVariable) → (result ≡ Some variable) ↔ (name.now ≡ standard_name variable) }
+        ensures { (variable : StandardVariable) → (result ≡ Some variable) ↔ (name.now
+            ≡ spec.standard_name variable) }
     {
         STANDARD_VARIABLES
             .iter()
@@ -73,7 +72,7 @@ impl StandardVariable {
 
     /// Its name in CSL, such as `container-title`.
     pub fn name(&self) -> &'static str
-        ensures { result.now ≡ standard_name self.now }
+        ensures { result.now ≡ spec.standard_name self.now }
     {
         match self {
             StandardVariable::Abstract => "abstract",
@@ -151,7 +150,8 @@ static NUMBER_VARIABLES: [NumberVariable; 17] = [
 impl NumberVariable {
     /// The number variable of this name, such as `volume`, if there is one.
     pub fn from_name(name: &str) -> Option<NumberVariable>
-        ensures { (variable : NumberVariable) → (result ≡ Some variable) ↔ (name.now ≡ number_name variable) }
+        ensures { (variable : NumberVariable) → (result ≡ Some variable) ↔ (name.now
+            ≡ spec.number_name variable) }
     {
         NUMBER_VARIABLES
             .iter()
@@ -161,7 +161,7 @@ impl NumberVariable {
 
     /// Its name in CSL, such as `volume`.
     pub fn name(&self) -> &'static str
-        ensures { result.now ≡ number_name self.now }
+        ensures { result.now ≡ spec.number_name self.now }
     {
         match self {
             NumberVariable::ChapterNumber => "chapter-number",
@@ -191,7 +191,8 @@ static PAGE_VARIABLES: [PageVariable; 1] = [PageVariable::Page];
 impl PageVariable {
     /// The page variable of this name, such as `page`, if there is one.
     pub fn from_name(name: &str) -> Option<PageVariable>
-        ensures { (variable : PageVariable) → (result ≡ Some variable) ↔ (name.now ≡ page_name variable) }
+        ensures { (variable : PageVariable) → (result ≡ Some variable) ↔ (name.now
+            ≡ spec.page_name variable) }
     {
         PAGE_VARIABLES
             .iter()
@@ -201,7 +202,7 @@ impl PageVariable {
 
     /// Its name in CSL, such as `page`.
     pub fn name(&self) -> &'static str
-        ensures { result.now ≡ page_name self.now }
+        ensures { result.now ≡ spec.page_name self.now }
     {
         match self {
             PageVariable::Page => "page",
@@ -222,7 +223,8 @@ static DATE_VARIABLES: [DateVariable; 6] = [
 impl DateVariable {
     /// The date variable of this name, such as `issued`, if there is one.
     pub fn from_name(name: &str) -> Option<DateVariable>
-        ensures { (variable : DateVariable) → (result ≡ Some variable) ↔ (name.now ≡ date_name variable) }
+        ensures { (variable : DateVariable) → (result ≡ Some variable) ↔ (name.now
+            ≡ spec.date_name variable) }
     {
         DATE_VARIABLES
             .iter()
@@ -232,7 +234,7 @@ impl DateVariable {
 
     /// Its name in CSL, such as `issued`.
     pub fn name(&self) -> &'static str
-        ensures { result.now ≡ date_name self.now }
+        ensures { result.now ≡ spec.date_name self.now }
     {
         match self {
             DateVariable::Accessed => "accessed",
@@ -279,7 +281,7 @@ pub(crate) static NAME_VARIABLES: [NameVariable; 27] = [
 /// The name of a variable in the spelling of Appendix IV: `editor-translator` for the
 /// `editortranslator` of published styles.
 fn variable_spelling(name: &str) -> &str
-    ensures { result.now ≡ variable_spelling name.now }
+    ensures { result.now ≡ spec.variable_spelling name.now }
 {
     if name == "editortranslator" {
         "editor-translator"
@@ -290,7 +292,8 @@ fn variable_spelling(name: &str) -> &str
 
 /// The name variable of this name in the spelling of Appendix IV.
 fn name_variable(name: &str) -> Option<NameVariable>
-    ensures { (variable : NameVariable) → (result ≡ Some variable) ↔ (name.now ≡ name_variable_name variable) }
+    ensures { (variable : NameVariable) → (result ≡ Some variable) ↔ (name.now
+        ≡ spec.name_variable_name variable) }
 {
     NAME_VARIABLES
         .iter()
@@ -303,14 +306,14 @@ impl NameVariable {
     /// `editor-translator` or `editortranslator`.
     pub fn from_name(name: &str) -> Option<NameVariable>
         ensures { (variable : NameVariable) → (result ≡ Some variable)
-            ↔ (variable_spelling name.now ≡ name_variable_name variable) }
+            ↔ (spec.variable_spelling name.now ≡ spec.name_variable_name variable) }
     {
         name_variable(variable_spelling(name))
     }
 
     /// Its name in CSL, such as `author`.
     pub fn name(&self) -> &'static str
-        ensures { result.now ≡ name_variable_name self.now }
+        ensures { result.now ≡ spec.name_variable_name self.now }
     {
         match self {
             NameVariable::Author => "author",
@@ -350,7 +353,7 @@ impl Variable {
     #[tactic(auto, using(crate::proofs::OneName::given_laws))]
     pub fn from_name(name: &str) -> Option<Variable>
         ensures { (variable : Variable) → (result ≡ Some variable)
-            ↔ (variable_spelling name.now ≡ variable_name variable) }
+            ↔ (spec.variable_spelling name.now ≡ spec.variable_name variable) }
     {
         let name = variable_spelling(name);
         if let Some(variable) = StandardVariable::from_name(name) {
@@ -373,7 +376,7 @@ impl Variable {
 
     /// Its name in CSL, such as `container-title`.
     pub fn name(&self) -> &'static str
-        ensures { result.now ≡ variable_name self.now }
+        ensures { result.now ≡ spec.variable_name self.now }
     {
         match self {
             Variable::Standard(variable) => variable.name(),

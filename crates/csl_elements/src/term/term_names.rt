@@ -1,8 +1,7 @@
 //! The names of terms (CSL 1.0.2, Appendix II: Terms).
 
 ghost use Rattle.std.specs.Prelude.{◌≡◌, ◌↔◌, Some, option_map, slice_get};
-ghost use Rattle.csl_elements.specs.TermNames.{IsTermOf, months, other_name, role_name};
-ghost use Rattle.csl_elements.specs.TermNames.{season_name, term_name, term_spelling};
+ghost use Rattle.csl_elements.specs.TermNames as spec;
 
 use crate::taxonomy::variable_names::NAME_VARIABLES;
 use crate::taxonomy::{Locator, NameVariable, NumberVariable, PageVariable};
@@ -63,7 +62,7 @@ static OTHER_TERMS: [OtherTerm; 48] = [
 
 /// The name of the term for a month, from 0 for January to 11 for December.
 fn month_name(month: u8) -> Option<&'static str>
-    ensures { option_map (λ t. t.now) result ≡ slice_get months month }
+    ensures { option_map (λ t. t.now) result ≡ slice_get spec.months month }
 {
     match month {
         0 => Some("month-01"),
@@ -84,7 +83,7 @@ fn month_name(month: u8) -> Option<&'static str>
 
 /// The name of the term for a season.
 fn season_name(season: Season) -> &'static str
-    ensures { result.now ≡ season_name season }
+    ensures { result.now ≡ spec.season_name season }
 {
     match season {
         Season::Spring => "season-01",
@@ -97,7 +96,7 @@ fn season_name(season: Season) -> &'static str
 /// The name of a term in the spelling of CSL's locales: `editortranslator` for the variable
 /// `editor-translator`.
 fn term_spelling(name: &str) -> &str
-    ensures { result.now ≡ term_spelling name.now }
+    ensures { result.now ≡ spec.term_spelling name.now }
 {
     if name == "editor-translator" {
         "editortranslator"
@@ -108,7 +107,7 @@ fn term_spelling(name: &str) -> &str
 
 /// The name of the term of a name variable.
 fn role_name(variable: NameVariable) -> &'static str
-    ensures { result.now ≡ role_name variable }
+    ensures { result.now ≡ spec.role_name variable }
 {
     term_spelling(variable.name())
 }
@@ -116,7 +115,7 @@ fn role_name(variable: NameVariable) -> &'static str
 /// The name variable whose term has this name.
 fn role_of_name(name: &str) -> Option<NameVariable>
     ensures { (variable : NameVariable) → (result ≡ Some variable)
-        ↔ (name.now ≡ role_name variable) }
+        ↔ (name.now ≡ spec.role_name variable) }
 {
     NAME_VARIABLES
         .iter()
@@ -128,7 +127,8 @@ impl OtherTerm {
     /// The term of this name, such as `no date`, that is of no variable and no locator, if there is
     /// one.
     pub fn from_name(name: &str) -> Option<OtherTerm>
-        ensures { (term : OtherTerm) → (result ≡ Some term) ↔ (other_name term ≡ Some name.now) }
+        ensures { (term : OtherTerm) → (result ≡ Some term) ↔ (spec.other_name term
+            ≡ Some name.now) }
     {
         OTHER_TERMS
             .iter()
@@ -138,7 +138,7 @@ impl OtherTerm {
 
     /// Its name in CSL, such as `no date`, unless it is a month of a number above 11.
     pub fn name(&self) -> Option<&'static str>
-        ensures { option_map (λ t. t.now) result ≡ other_name self.now }
+        ensures { option_map (λ t. t.now) result ≡ spec.other_name self.now }
     {
         match self {
             OtherTerm::And => Some("and"),
@@ -187,7 +187,8 @@ impl Term {
     /// or `editor-translator`.
     #[tactic(auto, using(crate::proofs::FirstTerm::first_term_laws))]
     pub fn from_name(name: &str) -> Option<Term>
-        ensures { (term : Term) → (result ≡ Some term) ↔ IsTermOf (term_spelling name.now) term }
+        ensures { (term : Term) → (result ≡ Some term)
+            ↔ spec.IsTermOf (spec.term_spelling name.now) term }
     {
         let name = term_spelling(name);
         if let Some(variable) = role_of_name(name) {
@@ -211,7 +212,7 @@ impl Term {
     /// Its name in CSL, such as `editor`, `sub-verbo` or `no date`, unless it is a month of a
     /// number above 11.
     pub fn name(&self) -> Option<&'static str>
-        ensures { option_map (λ t. t.now) result ≡ term_name self.now }
+        ensures { option_map (λ t. t.now) result ≡ spec.term_name self.now }
     {
         match self {
             Term::Name(variable) => Some(role_name(*variable)),

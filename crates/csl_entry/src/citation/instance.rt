@@ -8,9 +8,7 @@ ghost use Rattle.lit_model.specs.Person.{person_view};
 ghost use Rattle.lit_model.specs.Text.{chunks};
 ghost use Rattle.csl_entry.specs.Answers.{cow_view};
 ghost use Rattle.csl_entry.specs.Cite.{disambiguation_of, payload_of};
-ghost use Rattle.csl_entry.specs.Instance.{Instance, instance_of, plain_number, locator_answer, year_suffix};
-ghost use Rattle.csl_entry.specs.Instance.{resolve_number, resolve_page, resolve_number_or_page, resolve_standard, resolve_names, resolve_date};
-ghost use Rattle.csl_entry.specs.Instance.{SameNumber, SameStandard};
+ghost use Rattle.csl_entry.specs.Instance as spec;
 ghost use Rattle.csl_entry.specs.NumberResult.{result_view, number_or_page_view};
 ghost use Rattle.csl_entry.specs.Numbers.{IsNoteNumber};
 
@@ -70,12 +68,12 @@ impl<'s, T: EntryLike> InstanceContext<'s, T> {
         variable: NumberVariable,
     ) -> Result<Option<NumberVariableResult<'s>>, Memory>
         ensures value { IfOk result (λ found. option_map result_view found
-            ≡ resolve_number (instance_of T.answers self.now) variable) }
+            ≡ spec.resolve_number (spec.instance_of T.answers self.now) variable) }
 
         // The answer depends only on the citation and, unless the variable is one of the
         // citation's, on the entry's answer to this variable.
-        ensures depends { (i j : Instance) → i.cite ≡ j.cite → SameNumber i j variable
-            → resolve_number i variable ≡ resolve_number j variable }
+        ensures depends { (i j : spec.Instance) → i.cite ≡ j.cite → spec.SameNumber i j variable
+            → spec.resolve_number i variable ≡ spec.resolve_number j variable }
     {
         match variable {
             NumberVariable::CitationNumber => {
@@ -110,7 +108,7 @@ impl<'s, T: EntryLike> InstanceContext<'s, T> {
         variable: PageVariable,
     ) -> Result<Option<PageVariableResult>, Memory>
         ensures { IfOk result (λ found. option_map (maybe_view pages_view) found
-            ≡ resolve_page (instance_of T.answers self.now) variable) }
+            ≡ spec.resolve_page (spec.instance_of T.answers self.now) variable) }
     {
         self.entry.resolve_page_variable(alloc, variable)
     }
@@ -123,7 +121,7 @@ impl<'s, T: EntryLike> InstanceContext<'s, T> {
         variable: NumberOrPageVariable,
     ) -> Result<Option<NumberOrPageVariableResult<'s>>, Memory>
         ensures { IfOk result (λ found. option_map number_or_page_view found
-            ≡ resolve_number_or_page (instance_of T.answers self.now) variable) }
+            ≡ spec.resolve_number_or_page (spec.instance_of T.answers self.now) variable) }
     {
         match variable {
             NumberOrPageVariable::Number(variable) => {
@@ -152,12 +150,13 @@ impl<'s, T: EntryLike> InstanceContext<'s, T> {
         variable: StandardVariable,
     ) -> Result<Option<Cow<'s, ChunkedString>>, Memory>
         ensures value { IfOk result (λ found. option_map (cow_view chunks) found
-            ≡ resolve_standard (instance_of T.answers self.now) form variable) }
+            ≡ spec.resolve_standard (spec.instance_of T.answers self.now) form variable) }
 
         // The answer depends only on the citation and, unless the variable is the citation's, on
         // the entry's answer to this variable in this form.
-        ensures depends { (i j : Instance) → i.cite ≡ j.cite → SameStandard i j form variable
-            → resolve_standard i form variable ≡ resolve_standard j form variable }
+        ensures depends { (i j : spec.Instance) → i.cite ≡ j.cite
+            → spec.SameStandard i j form variable
+            → spec.resolve_standard i form variable ≡ spec.resolve_standard j form variable }
     {
         match variable {
             StandardVariable::YearSuffix => {
@@ -175,7 +174,7 @@ impl<'s, T: EntryLike> InstanceContext<'s, T> {
         variable: NameVariable,
     ) -> Result<Vec<Cow<'s, Person>>, Memory>
         ensures { IfOk result (λ found. map (cow_view person_view) found.items
-            ≡ resolve_names (instance_of T.answers self.now) variable) }
+            ≡ spec.resolve_names (spec.instance_of T.answers self.now) variable) }
     {
         self.entry.resolve_name_variable(alloc, variable)
     }
@@ -188,7 +187,7 @@ impl<'s, T: EntryLike> InstanceContext<'s, T> {
         variable: DateVariable,
     ) -> Result<Option<Cow<'s, Date>>, Memory>
         ensures { IfOk result (λ found. option_map (cow_view date_view) found
-            ≡ resolve_date (instance_of T.answers self.now) variable) }
+            ≡ spec.resolve_date (spec.instance_of T.answers self.now) variable) }
     {
         self.entry.resolve_date_variable(alloc, variable)
     }
@@ -197,7 +196,7 @@ impl<'s, T: EntryLike> InstanceContext<'s, T> {
 /// A number without prefix and suffix. It is at most 2147483647, the largest `i32`.
 fn plain_number<'s>(number: u32) -> NumberVariableResult<'s>
     requires { IsNoteNumber number }
-    ensures { result_view result ≡ plain_number number }
+    ensures { result_view result ≡ spec.plain_number number }
 {
     let number = Numeric::new(number as i32);
     NumberVariableResult::Regular(MaybeTyped::Typed(Cow::Owned(number)))
@@ -210,7 +209,7 @@ fn locator_answer<'s>(
     payload: LocatorPayload<'_>,
 ) -> Result<NumberVariableResult<'s>, Memory>
     ensures { IfOk result (λ found. result_view found
-        ≡ locator_answer index (payload_of payload.entry)) }
+        ≡ spec.locator_answer index (payload_of payload.entry)) }
 {
     match payload {
         LocatorPayload::Str(text) => match numeric_or_text(alloc, text)? {
@@ -232,7 +231,7 @@ fn year_suffix<'s>(
     state: &DisambiguateState,
 ) -> Result<Option<Cow<'s, ChunkedString>>, Memory>
     ensures { IfOk result (λ found. option_map (cow_view chunks) found
-        ≡ year_suffix (disambiguation_of state.now)) }
+        ≡ spec.year_suffix (disambiguation_of state.now)) }
 {
     match state {
         DisambiguateState::YearSuffix(number) => {

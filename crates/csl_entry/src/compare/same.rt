@@ -12,7 +12,7 @@ ghost use Rattle.lit_model.specs.MaybeTyped.{maybe_view};
 ghost use Rattle.lit_model.specs.Numeric.{numeric_view};
 ghost use Rattle.lit_model.specs.Page.{pages_view};
 ghost use Rattle.lit_model.specs.Person.{person_view};
-ghost use Rattle.lit_model.specs.SamePerson.{same_people};
+ghost use Rattle.lit_model.specs.SamePerson as spec;
 ghost use Rattle.lit_model.specs.Text.{chunks};
 ghost use Rattle.std.specs.Cow.{cow_value};
 ghost use Rattle.csl_entry.specs.Answers.{cow_view};
@@ -27,7 +27,7 @@ pub fn same_people(people: &[Cow<'_, Person>], others: &[Cow<'_, Person>]) -> bo
     ensures texts { IsTrue result
         ↔ (map (cow_view person_view) people.now ≡ map (cow_view person_view) others.now) }
     ensures test { result
-        ≡ same_people (map (cow_view person_view) people.now)
+        ≡ spec.same_people (map (cow_view person_view) people.now)
         (map (cow_view person_view) others.now) }
 {
     same_each(people, others)
@@ -35,7 +35,7 @@ pub fn same_people(people: &[Cow<'_, Person>], others: &[Cow<'_, Person>]) -> bo
 
 /// Whether two lists of persons are equal, person by person.
 fn same_each(people: &[Cow<'_, Person>], others: &[Cow<'_, Person>]) -> bool
-    ensures { result ≡ same_people (map (cow_view person_view) people.now)
+    ensures { result ≡ spec.same_people (map (cow_view person_view) people.now)
         (map (cow_view person_view) others.now) }
 {
     if people.len() != others.len() {

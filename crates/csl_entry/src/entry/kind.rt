@@ -3,7 +3,7 @@
 ghost use Rattle.std.specs.Prelude.{◌≡◌, ◌↔◌, ◌∷◌, [], IsTrue, IsSome, IfSome, IfNone};
 ghost use Rattle.lit_model.specs.declared.entry_type.EntryType.TheVariants.{Legislation};
 ghost use Rattle.csl_elements.specs.declared.taxonomy.Kind.TheVariants as kind;
-ghost use Rattle.csl_entry.specs.EntryKind.{typing_of, TypingIsShown, is_a, is_part_of, is_journal_article, is_newspaper_article, is_conference_paper, is_report, is_thesis, is_periodical, is_recording, is_musical_score, is_motion_picture, is_song, is_blog_post, is_post, is_online, is_figure, is_kind, kinds_among, recording_kinds, legislation_kinds};
+ghost use Rattle.csl_entry.specs.EntryKind as spec;
 
 use csl_elements::Kind;
 use lit_model::{Bind, Clause, Entry, EntryType};
@@ -12,10 +12,11 @@ use lit_model::{Bind, Clause, Entry, EntryType};
 /// `MusicalScore` and `Song`. `None` for an entry of another type, which is of none of these (CSL
 /// 1.0.2, Appendix III: Types).
 pub fn recording_kind(entry: &Entry) -> Option<Kind>
-    ensures recording { IsSome result ↔ IsTrue (is_recording (typing_of entry.now)) }
+    ensures recording { IsSome result ↔ IsTrue (spec.is_recording (spec.typing_of entry.now)) }
     ensures one { IfSome result (λ kind.
-        kinds_among recording_kinds (typing_of entry.now) ≡ kind ∷ []) }
-    ensures none { IfNone result (kinds_among recording_kinds (typing_of entry.now) ≡ []) }
+        spec.kinds_among spec.recording_kinds (spec.typing_of entry.now) ≡ kind ∷ []) }
+    ensures none { IfNone result (spec.kinds_among spec.recording_kinds (spec.typing_of entry.now)
+        ≡ []) }
 {
     if !is_recording(entry) {
         return None;
@@ -35,10 +36,11 @@ pub fn recording_kind(entry: &Entry) -> Option<Kind>
 /// The kind of a law: `Legislation` if it has a publisher, else `Bill`. No law is both. `None` for
 /// an entry of another type, which is neither (CSL 1.0.2, Appendix III: Types).
 pub fn legislation_kind(entry: &Entry) -> Option<Kind>
-    ensures law { IsSome result ↔ IsTrue (is_a Legislation (typing_of entry.now)) }
+    ensures law { IsSome result ↔ IsTrue (spec.is_a Legislation (spec.typing_of entry.now)) }
     ensures one { IfSome result (λ kind.
-        kinds_among legislation_kinds (typing_of entry.now) ≡ kind ∷ []) }
-    ensures none { IfNone result (kinds_among legislation_kinds (typing_of entry.now) ≡ []) }
+        spec.kinds_among spec.legislation_kinds (spec.typing_of entry.now) ≡ kind ∷ []) }
+    ensures none { IfNone result (spec.kinds_among spec.legislation_kinds (spec.typing_of entry.now)
+        ≡ []) }
 {
     if entry.entry_type != EntryType::Legislation {
         return None;
@@ -53,10 +55,10 @@ pub fn legislation_kind(entry: &Entry) -> Option<Kind>
 /// or of none.
 #[tactic(auto, using(crate::proofs::ShowSame::same_typing))]
 pub(crate) fn is_of_kind(entry: &Entry, kind: Kind) -> bool
-    ensures value { result ≡ is_kind kind (typing_of entry.now) }
+    ensures value { result ≡ spec.is_kind kind (spec.typing_of entry.now) }
 
     // The kinds depend only on the fields of the entry and its parents (`works`).
-    ensures shown { TypingIsShown entry.now }
+    ensures shown { spec.TypingIsShown entry.now }
 {
     match kind {
         Kind::Article => is_article(entry),
@@ -95,7 +97,7 @@ pub(crate) fn is_of_kind(entry: &Entry, kind: Kind) -> bool
 
 /// Whether a direct parent of the entry is of one of these types.
 fn is_part_of(entry: &Entry, types: &[EntryType]) -> bool
-    ensures { result ≡ is_part_of types.now (typing_of entry.now) }
+    ensures { result ≡ spec.is_part_of types.now (spec.typing_of entry.now) }
 {
     entry.matches(&[Clause {
         own: &[],
@@ -106,31 +108,31 @@ fn is_part_of(entry: &Entry, types: &[EntryType]) -> bool
 }
 
 fn is_journal_article(entry: &Entry) -> bool
-    ensures { result ≡ is_journal_article (typing_of entry.now) }
+    ensures { result ≡ spec.is_journal_article (spec.typing_of entry.now) }
 {
     entry.entry_type == EntryType::Article && is_part_of(entry, &[EntryType::Periodical])
 }
 
 fn is_newspaper_article(entry: &Entry) -> bool
-    ensures { result ≡ is_newspaper_article (typing_of entry.now) }
+    ensures { result ≡ spec.is_newspaper_article (spec.typing_of entry.now) }
 {
     entry.entry_type == EntryType::Article && is_part_of(entry, &[EntryType::Newspaper])
 }
 
 fn is_conference_paper(entry: &Entry) -> bool
-    ensures { result ≡ is_conference_paper (typing_of entry.now) }
+    ensures { result ≡ spec.is_conference_paper (spec.typing_of entry.now) }
 {
     entry.entry_type == EntryType::Article && is_part_of(entry, &[EntryType::Proceedings])
 }
 
 fn is_report(entry: &Entry) -> bool
-    ensures { result ≡ is_report (typing_of entry.now) }
+    ensures { result ≡ spec.is_report (spec.typing_of entry.now) }
 {
     entry.entry_type == EntryType::Report || is_part_of(entry, &[EntryType::Report])
 }
 
 fn is_thesis(entry: &Entry) -> bool
-    ensures { result ≡ is_thesis (typing_of entry.now) }
+    ensures { result ≡ spec.is_thesis (spec.typing_of entry.now) }
 {
     entry.entry_type == EntryType::Thesis || is_part_of(entry, &[EntryType::Thesis])
 }
@@ -138,7 +140,7 @@ fn is_thesis(entry: &Entry) -> bool
 /// Whether the entry is an article, but of no narrower kind of article, not a report or a thesis,
 /// and not in a blog. No article is a manuscript, because that is a type of its own.
 fn is_article(entry: &Entry) -> bool
-    ensures { result ≡ is_kind kind.Article (typing_of entry.now) }
+    ensures { result ≡ spec.is_kind kind.Article (spec.typing_of entry.now) }
 {
     entry.entry_type == EntryType::Article
         && !(is_journal_article(entry)
@@ -150,20 +152,20 @@ fn is_article(entry: &Entry) -> bool
 }
 
 fn is_periodical(entry: &Entry) -> bool
-    ensures { result ≡ is_periodical (typing_of entry.now) }
+    ensures { result ≡ spec.is_periodical (spec.typing_of entry.now) }
 {
     entry.entry_type == EntryType::Book && is_part_of(entry, &[EntryType::Periodical])
 }
 
 fn is_book(entry: &Entry) -> bool
-    ensures { result ≡ is_kind kind.Book (typing_of entry.now) }
+    ensures { result ≡ spec.is_kind kind.Book (spec.typing_of entry.now) }
 {
     (entry.entry_type == EntryType::Book || entry.entry_type == EntryType::Proceedings)
         && !is_periodical(entry)
 }
 
 fn is_chapter(entry: &Entry) -> bool
-    ensures { result ≡ is_kind kind.Chapter (typing_of entry.now) }
+    ensures { result ≡ spec.is_kind kind.Chapter (spec.typing_of entry.now) }
 {
     match entry.entry_type {
         EntryType::Anthos => is_part_of(entry, &[EntryType::Anthology]),
@@ -180,13 +182,13 @@ fn is_chapter(entry: &Entry) -> bool
 }
 
 fn is_entry(entry: &Entry) -> bool
-    ensures { result ≡ is_kind kind.Entry (typing_of entry.now) }
+    ensures { result ≡ spec.is_kind kind.Entry (spec.typing_of entry.now) }
 {
     entry.entry_type == EntryType::Entry && !is_part_of(entry, &[EntryType::Reference])
 }
 
 fn is_recording(entry: &Entry) -> bool
-    ensures { result ≡ is_recording (typing_of entry.now) }
+    ensures { result ≡ spec.is_recording (spec.typing_of entry.now) }
 {
     entry.entry_type == EntryType::Audio || entry.entry_type == EntryType::Video
 }
@@ -194,7 +196,7 @@ fn is_recording(entry: &Entry) -> bool
 /// Whether the entry is an audio in a book, a periodical, a work of reference, a miscellany, a blog
 /// or a site.
 fn is_musical_score(entry: &Entry) -> bool
-    ensures { result ≡ is_musical_score (typing_of entry.now) }
+    ensures { result ≡ spec.is_musical_score (spec.typing_of entry.now) }
 {
     entry.entry_type == EntryType::Audio
         && is_part_of(
@@ -212,46 +214,46 @@ fn is_musical_score(entry: &Entry) -> bool
 
 #[tactic(auto, using(crate::proofs::Typings::alone_without_parents))]
 fn is_motion_picture(entry: &Entry) -> bool
-    ensures { result ≡ is_motion_picture (typing_of entry.now) }
+    ensures { result ≡ spec.is_motion_picture (spec.typing_of entry.now) }
 {
     entry.entry_type == EntryType::Video && entry.parents.is_empty()
 }
 
 #[tactic(auto, using(crate::proofs::Typings::alone_without_parents))]
 fn is_song(entry: &Entry) -> bool
-    ensures { result ≡ is_song (typing_of entry.now) }
+    ensures { result ≡ spec.is_song (spec.typing_of entry.now) }
 {
     entry.entry_type == EntryType::Audio && entry.parents.is_empty()
 }
 
 fn is_broadcast(entry: &Entry) -> bool
-    ensures { result ≡ is_kind kind.Broadcast (typing_of entry.now) }
+    ensures { result ≡ spec.is_kind kind.Broadcast (spec.typing_of entry.now) }
 {
     is_recording(entry) && !(is_musical_score(entry) || is_motion_picture(entry) || is_song(entry))
 }
 
 /// Whether the entry is a law with a publisher.
 fn is_legislation(entry: &Entry) -> bool
-    ensures { result ≡ is_kind kind.Legislation (typing_of entry.now) }
+    ensures { result ≡ spec.is_kind kind.Legislation (spec.typing_of entry.now) }
 {
     entry.entry_type == EntryType::Legislation && entry.publisher.is_some()
 }
 
 /// Whether the entry is a law without a publisher.
 fn is_bill(entry: &Entry) -> bool
-    ensures { result ≡ is_kind kind.Bill (typing_of entry.now) }
+    ensures { result ≡ spec.is_kind kind.Bill (spec.typing_of entry.now) }
 {
     entry.entry_type == EntryType::Legislation && entry.publisher.is_none()
 }
 
 fn is_blog_post(entry: &Entry) -> bool
-    ensures { result ≡ is_blog_post (typing_of entry.now) }
+    ensures { result ≡ spec.is_blog_post (spec.typing_of entry.now) }
 {
     is_part_of(entry, &[EntryType::Blog])
 }
 
 fn is_post(entry: &Entry) -> bool
-    ensures { result ≡ is_post (typing_of entry.now) }
+    ensures { result ≡ spec.is_post (spec.typing_of entry.now) }
 {
     entry.entry_type == EntryType::Post || is_part_of(entry, &[EntryType::Thread])
 }
@@ -259,7 +261,7 @@ fn is_post(entry: &Entry) -> bool
 /// Whether the entry is a site, a blog or a thread, is in a site or a blog, or is of no type of its
 /// own (`Misc`) but has an address.
 fn is_online(entry: &Entry) -> bool
-    ensures { result ≡ is_online (typing_of entry.now) }
+    ensures { result ≡ spec.is_online (spec.typing_of entry.now) }
 {
     (entry.entry_type == EntryType::Misc && entry.url.is_some())
         || is_part_of(entry, &[EntryType::Web, EntryType::Blog])
@@ -269,19 +271,19 @@ fn is_online(entry: &Entry) -> bool
 }
 
 fn is_webpage(entry: &Entry) -> bool
-    ensures { result ≡ is_kind kind.Webpage (typing_of entry.now) }
+    ensures { result ≡ spec.is_kind kind.Webpage (spec.typing_of entry.now) }
 {
     is_online(entry) && !(is_blog_post(entry) || is_post(entry))
 }
 
 fn is_figure(entry: &Entry) -> bool
-    ensures { result ≡ is_figure (typing_of entry.now) }
+    ensures { result ≡ spec.is_figure (spec.typing_of entry.now) }
 {
     entry.entry_type == EntryType::Artwork && is_part_of(entry, &[EntryType::Article])
 }
 
 fn is_graphic(entry: &Entry) -> bool
-    ensures { result ≡ is_kind kind.Graphic (typing_of entry.now) }
+    ensures { result ≡ spec.is_kind kind.Graphic (spec.typing_of entry.now) }
 {
     entry.entry_type == EntryType::Artwork && !is_figure(entry)
 }

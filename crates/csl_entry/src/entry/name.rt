@@ -6,7 +6,7 @@ ghost use Rattle.lit_model.specs.Person.{person_view};
 ghost use Rattle.lit_model.specs.Select.{clause_view, bound_select, audio_video};
 ghost use Rattle.csl_entry.specs.Answers.{cow_view};
 ghost use Rattle.csl_entry.specs.Creators.{in_role};
-ghost use Rattle.csl_entry.specs.EntryName.{conference_clauses, exhibition, persons_of_bound, own_authors, own_editors, is_one_of, persons_of, names_of};
+ghost use Rattle.csl_entry.specs.EntryName as spec;
 
 use csl_elements::NameVariable;
 use lit_model::select::audio_video;
@@ -21,7 +21,7 @@ pub(super) fn name_variable(
     variable: NameVariable,
 ) -> Result<Vec<Cow<'_, Person>>, Memory>
     ensures { IfOk result (λ found. map (cow_view person_view) found.items
-        ≡ names_of entry.now variable) }
+        ≡ spec.names_of entry.now variable) }
 {
     match variable {
         NameVariable::Author => name_answer(alloc, authors(Some(entry))),
@@ -73,7 +73,7 @@ static MEETING: [Clause<'static>; 1] = [Clause {
 
 /// Selects the first parent that is proceedings or a conference.
 fn meeting() -> &'static [Clause<'static>]
-    ensures { map clause_view result.now ≡ conference_clauses }
+    ensures { map clause_view result.now ≡ spec.conference_clauses }
 {
     &MEETING
 }
@@ -87,7 +87,7 @@ static EXHIBITION: [Clause<'static>; 1] = [Clause {
 
 /// Selects the first parent that is an exhibition.
 fn exhibition() -> &'static [Clause<'static>]
-    ensures { map clause_view result.now ≡ exhibition }
+    ensures { map clause_view result.now ≡ spec.exhibition }
 {
     &EXHIBITION
 }
@@ -101,7 +101,7 @@ fn recording(entry: &Entry) -> Option<&Entry>
 
 /// The authors of a work, or nobody if there is no work or it has no list of authors.
 fn authors(work: Option<&Entry>) -> &[Person]
-    ensures { result.now ≡ persons_of_bound own_authors (option_copied work.entry) }
+    ensures { result.now ≡ spec.persons_of_bound spec.own_authors (option_copied work.entry) }
 {
     match work {
         Some(work) => work.authors().unwrap_or(&[]),
@@ -111,7 +111,7 @@ fn authors(work: Option<&Entry>) -> &[Person]
 
 /// The editors of a work, or nobody if there is no work or it has no list of editors.
 fn editors(work: Option<&Entry>) -> &[Person]
-    ensures { result.now ≡ persons_of_bound own_editors (option_copied work.entry) }
+    ensures { result.now ≡ spec.persons_of_bound spec.own_editors (option_copied work.entry) }
 {
     match work {
         Some(work) => work.editors().unwrap_or(&[]),
@@ -121,7 +121,7 @@ fn editors(work: Option<&Entry>) -> &[Person]
 
 /// The entry's own editors, or those of its container if it has no list of editors.
 fn editors_or_of_container(entry: &Entry) -> &[Person]
-    ensures { result.now ≡ persons_of entry.now NameVariable.Editor }
+    ensures { result.now ≡ spec.persons_of entry.now NameVariable.Editor }
 {
     match entry.editors() {
         Some(editors) => editors,
@@ -163,7 +163,7 @@ fn in_role<'a>(
     role: &PersonRole,
 ) -> Result<Vec<Cow<'a, Person>>, Memory>
     ensures { IfOk result (λ found. map (cow_view person_view) found.items
-        ≡ map person_view (persons_of_bound (in_role role.now) (option_copied work.entry))) }
+        ≡ map person_view (spec.persons_of_bound (in_role role.now) (option_copied work.entry))) }
 {
     match work {
         Some(work) => {
@@ -177,7 +177,7 @@ fn in_role<'a>(
 /// The entry's own editors who are also among its translators.
 fn editor_translators(alloc: Global, entry: &Entry) -> Result<Vec<Cow<'_, Person>>, Memory>
     ensures { IfOk result (λ found. map (cow_view person_view) found.items
-        ≡ names_of entry.now NameVariable.EditorTranslator) }
+        ≡ spec.names_of entry.now NameVariable.EditorTranslator) }
 {
     let mut found = Vec::new(alloc);
     let editors = editors(Some(entry));
@@ -191,7 +191,7 @@ fn editor_translators(alloc: Global, entry: &Entry) -> Result<Vec<Cow<'_, Person
 
 /// Whether the person is equal to one of the entry's translators.
 fn is_translator(entry: &Entry, person: &Person) -> bool
-    ensures { result ≡ is_one_of (in_role role.Translator entry.now) person.now }
+    ensures { result ≡ spec.is_one_of (in_role role.Translator entry.now) person.now }
 {
     if let Some(groups) = &entry.affiliated {
         for group in groups {
@@ -205,7 +205,7 @@ fn is_translator(entry: &Entry, person: &Person) -> bool
 
 /// Whether one of the persons is equal to `person`.
 fn is_one_of(persons: &[Person], person: &Person) -> bool
-    ensures { result ≡ is_one_of persons.now person.now }
+    ensures { result ≡ spec.is_one_of persons.now person.now }
 {
     persons.contains(person)
 }

@@ -4,7 +4,7 @@ ghost use Rattle.std.specs.Prelude.{◌≡◌, IfOk, option_map, option_copied};
 ghost use Rattle.lit_model.specs.MaybeTyped.{maybe_view, typed};
 ghost use Rattle.lit_model.specs.Numeric.{numeric_view};
 ghost use Rattle.csl_entry.specs.Answers.{cow_view};
-ghost use Rattle.csl_entry.specs.EntryNumber.{number_of, number_answer, numeric_answer, serial_answer, first_page_of, chapter_number, collection_number, own_number, part_number, printing_number, version_number, volume_number};
+ghost use Rattle.csl_entry.specs.EntryNumber as spec;
 
 use crate::entry::numeric_text::numeric_or_text;
 use csl_elements::NumberVariable;
@@ -23,7 +23,7 @@ pub(crate) fn number_variable(
     variable: NumberVariable,
 ) -> Result<Option<MaybeTyped<Cow<'_, Numeric>>>, Memory>
     ensures { IfOk result (λ found. option_map (maybe_view (cow_view numeric_view)) found
-        ≡ number_of entry.now variable) }
+        ≡ spec.number_of entry.now variable) }
 {
     match variable {
         NumberVariable::ChapterNumber => number_answer(alloc, chapter_number(entry)),
@@ -52,7 +52,7 @@ pub(crate) fn number_answer(
     found: Option<&MaybeTyped<Numeric>>,
 ) -> Result<Option<MaybeTyped<Cow<'_, Numeric>>>, Memory>
     ensures { IfOk result (λ r. option_map (maybe_view (cow_view numeric_view)) r
-        ≡ number_answer (option_copied found.entry)) }
+        ≡ spec.number_answer (option_copied found.entry)) }
 {
     match found {
         None => Ok(None),
@@ -81,7 +81,7 @@ fn serial_answer<'a>(
     found: Option<&str>,
 ) -> Result<Option<MaybeTyped<Cow<'a, Numeric>>>, Memory>
     ensures { IfOk result (λ r. option_map (maybe_view (cow_view numeric_view)) r
-        ≡ serial_answer (option_copied found.entry)) }
+        ≡ spec.serial_answer (option_copied found.entry)) }
 {
     let Some(text) = found else {
         return Ok(None);
@@ -94,7 +94,7 @@ fn serial_answer<'a>(
 
 /// The entry's own chapter, or else its own volume if that numbers a chapter.
 fn chapter_number(entry: &Entry) -> Option<&MaybeTyped<Numeric>>
-    ensures { option_copied result ≡ chapter_number entry.now }
+    ensures { option_copied result ≡ spec.chapter_number entry.now }
 {
     entry
         .chapter()
@@ -103,7 +103,7 @@ fn chapter_number(entry: &Entry) -> Option<&MaybeTyped<Numeric>>
 
 /// The volume of the entry's collection.
 fn collection_number(entry: &Entry) -> Option<&MaybeTyped<Numeric>>
-    ensures { option_copied result ≡ collection_number entry.now }
+    ensures { option_copied result ≡ spec.collection_number entry.now }
 {
     entry.get_collection()?.volume()
 }
@@ -111,7 +111,7 @@ fn collection_number(entry: &Entry) -> Option<&MaybeTyped<Numeric>>
 /// The entry's own number named `serial`, or else a chapter's own chapter.
 fn own_number(alloc: Global, entry: &Entry) -> Result<Option<MaybeTyped<Cow<'_, Numeric>>>, Memory>
     ensures { IfOk result (λ r. option_map (maybe_view (cow_view numeric_view)) r
-        ≡ own_number entry.now) }
+        ≡ spec.own_number entry.now) }
 {
     match entry.keyed_serial_number("serial") {
         Some(text) => serial_answer(alloc, Some(text)),
@@ -122,7 +122,7 @@ fn own_number(alloc: Global, entry: &Entry) -> Result<Option<MaybeTyped<Cow<'_, 
 
 /// The first of the entry's own pages, if they are pages and not a text.
 fn first_page(entry: &Entry) -> Option<&Numeric>
-    ensures { option_map (λ page. numeric_view page.now) result ≡ first_page_of entry.now }
+    ensures { option_map (λ page. numeric_view page.now) result ≡ spec.first_page_of entry.now }
 {
     match entry.page_range()? {
         MaybeTyped::Typed(pages) => pages.first(),
@@ -132,21 +132,21 @@ fn first_page(entry: &Entry) -> Option<&Numeric>
 
 /// The entry's own volume, if it numbers a part.
 fn part_number(entry: &Entry) -> Option<&MaybeTyped<Numeric>>
-    ensures { option_copied result ≡ part_number entry.now }
+    ensures { option_copied result ≡ spec.part_number entry.now }
 {
     entry.bound_select(part())?.volume()
 }
 
 /// The number named `printing` in the first set of serial numbers along the entry and its parents.
 fn printing_number(entry: &Entry) -> Option<&str>
-    ensures { option_copied result ≡ printing_number entry.now }
+    ensures { option_copied result ≡ spec.printing_number entry.now }
 {
     entry.map(|work| work.serial_number())?.get("printing")
 }
 
 /// The version of the entry, if it is a repository.
 fn version_number(entry: &Entry) -> Option<&str>
-    ensures { option_copied result ≡ version_number entry.now }
+    ensures { option_copied result ≡ spec.version_number entry.now }
 {
     if entry.entry_type() == EntryType::Repository {
         entry.keyed_serial_number("version")
@@ -157,7 +157,7 @@ fn version_number(entry: &Entry) -> Option<&str>
 
 /// The volume of the entry's container, or else the entry's own.
 fn volume_number(entry: &Entry) -> Option<&MaybeTyped<Numeric>>
-    ensures { option_copied result ≡ volume_number entry.now }
+    ensures { option_copied result ≡ spec.volume_number entry.now }
 {
     entry
         .get_container()

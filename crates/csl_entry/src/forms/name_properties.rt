@@ -5,8 +5,7 @@ ghost use Rattle.std.specs.Borrow.{sem};
 ghost use Rattle.std.specs.Ordering.{is_gt, is_le};
 ghost use Rattle.std.specs.declared.cmp.Ordering.TheVariants.{Equal};
 ghost use Rattle.csl_entry.specs.LentForm.{lends_list, lends_form};
-ghost use Rattle.csl_entry.specs.NameProperties.{name_properties, first_as_long, with_names_shown, first_listed, CanDisambiguate, with_disambiguated_list};
-ghost use Rattle.csl_entry.specs.NameProperties.{shown_count, all_forms, forms_cmp, properties_cmp, shown_from, form_or_default};
+ghost use Rattle.csl_entry.specs.NameProperties as spec;
 
 use crate::forms::form_list::{count_shown, disambiguate_forms, holds_each, show_first, shown_mut};
 use crate::forms::name_form::DisambiguatedNameForm;
@@ -33,7 +32,7 @@ impl NameDisambiguationProperties {
         variables: Vec<NameVariable>,
         name_forms: Vec<Vec<Option<DisambiguatedNameForm>>>,
     ) -> Self
-        ensures { name_properties result ≡ record {
+        ensures { spec.name_properties result ≡ record {
           default_form = default_name_form;
           variables = variables.items;
           lists = map (λ forms. forms.items) name_forms.items;
@@ -48,28 +47,28 @@ impl NameDisambiguationProperties {
 
     /// The form of a name that becomes shown.
     pub fn default_name_form(&self) -> DisambiguatedNameForm
-        ensures { result ≡ (name_properties self.now).default_form }
+        ensures { result ≡ (spec.name_properties self.now).default_form }
     {
         self.default_name_form
     }
 
     /// The variables of the lists of names.
     pub fn variables(&self) -> &[NameVariable]
-        ensures { result.now ≡ (name_properties self.now).variables }
+        ensures { result.now ≡ (spec.name_properties self.now).variables }
     {
         &self.variables
     }
 
     /// The form of each name, for each list of names, or `None` if the name is not shown.
     pub fn name_forms(&self) -> &[Vec<Option<DisambiguatedNameForm>>]
-        ensures { map (λ forms. forms.items) result.now ≡ (name_properties self.now).lists }
+        ensures { map (λ forms. forms.items) result.now ≡ (spec.name_properties self.now).lists }
     {
         &self.name_forms
     }
 
     /// Returns an equal value.
     pub fn clone(&self, alloc: Global) -> Result<Self, Memory>
-        ensures { IfOk result (λ copy. name_properties copy ≡ name_properties self.now) }
+        ensures { IfOk result (λ copy. spec.name_properties copy ≡ spec.name_properties self.now) }
     {
         let variables = self.variables.as_slice().to_vec(alloc)?;
         let mut name_forms = Vec::with_capacity(alloc, self.name_forms.len())?;
@@ -85,7 +84,7 @@ impl NameDisambiguationProperties {
 
     /// The place of the first list with at least `num` forms.
     fn first_as_long(&self, num: usize) -> Option<usize>
-        ensures { result ≡ first_as_long num (name_properties self.now).lists }
+        ensures { result ≡ spec.first_as_long num (spec.name_properties self.now).lists }
     {
         self.name_forms.iter().position(|forms| forms.len() >= num)
     }
@@ -93,8 +92,10 @@ impl NameDisambiguationProperties {
     /// Shows the first `num` names of the first list with at least `num` names. Each of them that
     /// was not shown gets the default form. Returns whether there is such a list.
     pub fn add_name(&mut self, num: usize) -> bool
-        ensures answer { result ≡ is_some (first_as_long num (name_properties self.old).lists) }
-        ensures shown { name_properties self.new ≡ with_names_shown num (name_properties self.old) }
+        ensures answer { result
+            ≡ is_some (spec.first_as_long num (spec.name_properties self.old).lists) }
+        ensures shown { spec.name_properties self.new
+            ≡ spec.with_names_shown num (spec.name_properties self.old) }
     {
         let Some(place) = self.first_as_long(num) else {
             return false;
@@ -105,7 +106,7 @@ impl NameDisambiguationProperties {
 
     /// The first position of the variable, if it is listed.
     fn first_listed(&self, variable: NameVariable) -> Option<usize>
-        ensures { result ≡ first_listed variable (name_properties self.now) }
+        ensures { result ≡ spec.first_listed variable (spec.name_properties self.now) }
     {
         self.variables.iter().position(|listed| *listed == variable)
     }
@@ -113,7 +114,8 @@ impl NameDisambiguationProperties {
     /// Whether [`disambiguate_list`](Self::disambiguate_list) may be called. If the variable is
     /// listed, there has to be a list of forms at its first position that has each of these places.
     pub fn can_disambiguate(&self, variable: NameVariable, items: &[usize]) -> bool
-        ensures { IsTrue result ↔ CanDisambiguate variable items.now (name_properties self.now) }
+        ensures { IsTrue result
+            ↔ spec.CanDisambiguate variable items.now (spec.name_properties self.now) }
     {
         let Some(position) = self.first_listed(variable) else {
             return true;
@@ -130,11 +132,11 @@ impl NameDisambiguationProperties {
     /// form changed. Nothing changes if the variable is not listed.
     /// [`can_disambiguate`](Self::can_disambiguate) returns whether the call is allowed.
     pub fn disambiguate_list(&mut self, variable: NameVariable, items: &[usize]) -> bool
-        requires { CanDisambiguate variable items.now (name_properties self.old) }
-        ensures after { name_properties self.new
-            ≡ with_disambiguated_list variable items.now (name_properties self.old) }
+        requires { spec.CanDisambiguate variable items.now (spec.name_properties self.old) }
+        ensures after { spec.name_properties self.new
+            ≡ spec.with_disambiguated_list variable items.now (spec.name_properties self.old) }
         ensures answer { (result ≡ Bool.false)
-            ↔ (name_properties self.new ≡ name_properties self.old) }
+            ↔ (spec.name_properties self.new ≡ spec.name_properties self.old) }
     {
         let Some(place) = self.first_listed(variable) else {
             return false;
@@ -145,7 +147,7 @@ impl NameDisambiguationProperties {
     /// The number of names that are shown. It fits 128 bits, whatever the number of lists and
     /// names.
     fn shown_count(&self) -> u128
-        ensures { result ≡ shown_count (name_properties self.now) }
+        ensures { result ≡ spec.shown_count (spec.name_properties self.now) }
     {
         let mut count = 0;
         for forms in &self.name_forms {
@@ -156,8 +158,8 @@ impl NameDisambiguationProperties {
 
     /// Compares all forms, list after list. An absent form comes first.
     fn compare_forms(&self, other: &Self) -> Ordering
-        ensures { result ≡ forms_cmp (all_forms (name_properties self.now).lists)
-            (all_forms (name_properties other.now).lists) }
+        ensures { result ≡ spec.forms_cmp (spec.all_forms (spec.name_properties self.now).lists)
+            (spec.all_forms (spec.name_properties other.now).lists) }
     {
         let forms = self.name_forms.iter().flatten();
         forms.cmp(other.name_forms.iter().flatten())
@@ -165,7 +167,8 @@ impl NameDisambiguationProperties {
 
     /// Compares the number of names that are shown, then all forms.
     fn compare(&self, other: &Self) -> Ordering
-        ensures { result ≡ properties_cmp (name_properties self.now) (name_properties other.now) }
+        ensures { result
+            ≡ spec.properties_cmp (spec.name_properties self.now) (spec.name_properties other.now) }
     {
         let by_count = self.shown_count().cmp(&other.shown_count());
         by_count.then(self.compare_forms(other))
@@ -176,15 +179,17 @@ impl NameDisambiguationProperties {
     /// `other`.
     pub fn max(self, other: Self) -> Self
         ensures value { result ≡ (if is_gt
-            (properties_cmp (name_properties self) (name_properties other)) then self else other) }
+            (spec.properties_cmp (spec.name_properties self) (spec.name_properties other)) then self
+            else other) }
         ensures one { (result ≡ self) ⊎ (result ≡ other) }
 
         // The result is not less than either of the two.
         ensures at_least_self { IsTrue (is_le
-            (properties_cmp (name_properties self) (name_properties result))) }
+            (spec.properties_cmp (spec.name_properties self) (spec.name_properties result))) }
         ensures at_least_other { IsTrue (is_le
-            (properties_cmp (name_properties other) (name_properties result))) }
-        ensures tie { properties_cmp (name_properties self) (name_properties other) ≡ Equal
+            (spec.properties_cmp (spec.name_properties other) (spec.name_properties result))) }
+        ensures tie { spec.properties_cmp (spec.name_properties self) (spec.name_properties other)
+            ≡ Equal
             → result ≡ other }
     {
         if self.compare(&other).is_gt() {
@@ -197,7 +202,7 @@ impl NameDisambiguationProperties {
     /// The list with the `idx`-th of all forms, and the place of the form in it. `None` if the form
     /// is absent or does not exist.
     fn shown_at(&self, idx: usize) -> Option<(usize, usize)>
-        ensures { result ≡ shown_from 0 idx (name_properties self.now).lists }
+        ensures { result ≡ spec.shown_from 0 idx (spec.name_properties self.now).lists }
     {
         let mut place = idx;
         for (list, forms) in self.name_forms.iter().enumerate() {
@@ -224,7 +229,7 @@ impl NameDisambiguationProperties {
     pub fn get_form_mut(&mut self, idx: usize) -> Option<&mut DisambiguatedNameForm>
         ensures* writes_back { sem 𝓛 (lends_form self.entry idx result) }
         ensures value { IsSomeAnd result (λ form.
-            form.now ≡ form_or_default idx (name_properties self.old)) }
+            form.now ≡ spec.form_or_default idx (spec.name_properties self.old)) }
     {
         match self.shown_at(idx) {
             Some((list, place)) => Some(shown_mut(self.list_mut(list), place)),

@@ -3,7 +3,7 @@
 ghost use Rattle.std.specs.Prelude.{◌≡◌, ◌++◌, option_copied, option_map, string_bytes, IfOk, OnOk};
 ghost use Rattle.lit_model.specs.Date.{date_view};
 ghost use Rattle.csl_entry.specs.Creators.{creators_of};
-ghost use Rattle.csl_entry.specs.CitationLabel.{first_letters, creators_part, alphabetic_part, stand_in, label_date, year_number, year_part, label, LabelIsShown};
+ghost use Rattle.csl_entry.specs.CitationLabel as spec;
 
 use crate::entry::visit_date;
 use crate::label::creators::creators;
@@ -49,10 +49,10 @@ impl Alphanumerical {
     /// the year is 0 or less: year -99 gives `100`. Without a date there is no year.
     #[tactic(auto, using(crate::proofs::ShowSame::same_label))]
     pub fn citation(self, alloc: Global, entry: &Entry) -> Result<String, Memory>
-        ensures value { IfOk result (λ s. string_bytes s ≡ label self.letters entry.now) }
+        ensures value { IfOk result (λ s. string_bytes s ≡ spec.label self.letters entry.now) }
 
         // The label depends only on the fields of the entry and its parents (`works`).
-        ensures shown { LabelIsShown self.letters entry.now }
+        ensures shown { spec.LabelIsShown self.letters entry.now }
     {
         let work = entry.get_full();
         let mut label = String::new(alloc);
@@ -63,7 +63,7 @@ impl Alphanumerical {
 
     fn push_creators(self, alloc: Global, label: &mut String, work: &Entry) -> Result<(), Memory>
         ensures { OnOk result (string_bytes label.new ≡ string_bytes label.old
-            ++ creators_part self.letters (stand_in work.now) (creators_of work.now)) }
+            ++ spec.creators_part self.letters (spec.stand_in work.now) (creators_of work.now)) }
     {
         let creators = creators(alloc, work)?;
         match creators.as_slice() {
@@ -93,7 +93,7 @@ impl Alphanumerical {
 /// Appends the first `count` letters of a text, or all if it has fewer.
 fn push_letters(label: &mut String, text: &str, count: usize) -> Result<(), Memory>
     ensures { OnOk result (string_bytes label.new
-        ≡ string_bytes label.old ++ first_letters count text.now) }
+        ≡ string_bytes label.old ++ spec.first_letters count text.now) }
 {
     label.extend(text.graphemes(true).take(count))?;
     Ok(())
@@ -102,7 +102,7 @@ fn push_letters(label: &mut String, text: &str, count: usize) -> Result<(), Memo
 /// The text in place of creators: the organization, else the title, else the alphabetic characters
 /// of the key.
 fn stand_in(alloc: Global, work: &Entry) -> Result<String, Memory>
-    ensures { IfOk result (λ s. string_bytes s ≡ stand_in work.now) }
+    ensures { IfOk result (λ s. string_bytes s ≡ spec.stand_in work.now) }
 {
     let text = match (&work.organization, &work.title) {
         (Some(organization), _) => organization.value.to_text(alloc)?,
@@ -114,7 +114,7 @@ fn stand_in(alloc: Global, work: &Entry) -> Result<String, Memory>
 
 /// The alphabetic characters of a key.
 fn alphabetic_part(alloc: Global, key: &str) -> Result<String, Memory>
-    ensures { IfOk result (λ s. string_bytes s ≡ alphabetic_part key.now) }
+    ensures { IfOk result (λ s. string_bytes s ≡ spec.alphabetic_part key.now) }
 {
     let letters = key.chars().filter(|c| is_alphabetic(*c)).collect(alloc)?;
     Ok(letters)
@@ -122,14 +122,15 @@ fn alphabetic_part(alloc: Global, key: &str) -> Result<String, Memory>
 
 /// The date from which a label takes its year.
 fn label_date(work: &Entry) -> Option<&Date>
-    ensures { option_copied result ≡ label_date work.now }
+    ensures { option_copied result ≡ spec.label_date work.now }
 {
     work.date_any().or(visit_date(work))
 }
 
 fn push_year(label: &mut String, date: Option<&Date>) -> Result<(), Memory>
     ensures { OnOk result (string_bytes label.new
-        ≡ string_bytes label.old ++ year_part (option_map date_view (option_copied date.entry))) }
+        ≡ string_bytes label.old ++ spec.year_part (option_map date_view (option_copied
+        date.entry))) }
 {
     if let Some(date) = date {
         write!(label, "{:02}", year_number(date.year()))?;
@@ -139,7 +140,7 @@ fn push_year(label: &mut String, date: Option<&Date>) -> Result<(), Memory>
 
 /// The number of a year in a label: its last two digits, plus one if the year is 0 or less.
 fn year_number(year: i32) -> u32
-    ensures { result ≡ year_number year }
+    ensures { result ≡ spec.year_number year }
 {
     let number = (year % 100).unsigned_abs();
     if year <= 0 { number + 1 } else { number }

@@ -4,7 +4,7 @@
 ghost use Rattle.std.specs.Prelude.{◌≡◌, ◌++◌, map, IfOk};
 ghost use Rattle.lit_model.specs.Person.{person_view};
 ghost use Rattle.lit_model.specs.Select.{clause_view};
-ghost use Rattle.csl_entry.specs.Creators.{in_role, or_else, series, makers, creators_of};
+ghost use Rattle.csl_entry.specs.Creators as spec;
 
 use lit_model::{Bind, Clause, Entry, EntryType, Field, Memory, Person, PersonRole};
 use std::alloc::Global;
@@ -19,7 +19,7 @@ static SERIES: [Clause<'static>; 1] = [Clause {
 /// Selects the series of an episode. An episode is a video with an issue and a volume, and its
 /// series is the first parent that is a video.
 fn series() -> &'static [Clause<'static>]
-    ensures { map clause_view result.now ≡ series }
+    ensures { map clause_view result.now ≡ spec.series }
 {
     &SERIES
 }
@@ -28,7 +28,7 @@ fn series() -> &'static [Clause<'static>]
 /// makers. An empty list counts as a list.
 #[tactic(auto, using(crate::proofs::Persons::named_each))]
 pub(crate) fn creators(alloc: Global, entry: &Entry) -> Result<Vec<&Person>, Memory>
-    ensures { IfOk result (λ v. map (λ p. person_view p.now) v.items ≡ creators_of entry.now) }
+    ensures { IfOk result (λ v. map (λ p. person_view p.now) v.items ≡ spec.creators_of entry.now) }
 {
     let creators = match (&entry.authors, &entry.editors) {
         (Some(authors), _) => references(alloc, authors)?,
@@ -50,7 +50,7 @@ fn references(alloc: Global, persons: &[Person]) -> Result<Vec<&Person>, Memory>
 
 /// The makers of a work, by its type: the creators of a work without lists of authors and editors.
 fn makers(alloc: Global, entry: &Entry) -> Result<Vec<&Person>, Memory>
-    ensures { IfOk result (λ v. map (λ p. p.now) v.items ≡ makers entry.now) }
+    ensures { IfOk result (λ v. map (λ p. p.now) v.items ≡ spec.makers entry.now) }
 {
     if entry.entry_type != EntryType::Video {
         let compilers = entry.affiliated_with_role(alloc, &PersonRole::Compiler)?;
@@ -86,7 +86,7 @@ fn or_role<'a>(
     role: &PersonRole,
 ) -> Result<Vec<&'a Person>, Memory>
     ensures { IfOk result (λ v. map (λ p. p.now) v.items
-        ≡ or_else (map (λ p. p.now) persons.entry.items) (in_role role.now entry.now)) }
+        ≡ spec.or_else (map (λ p. p.now) persons.entry.items) (spec.in_role role.now entry.now)) }
 {
     if persons.as_slice().is_empty() {
         return entry.affiliated_with_role(alloc, role);

@@ -3,7 +3,8 @@
 
 ghost use Rattle.std.specs.Prelude.{◌≡◌, [], None, map, option_copied};
 ghost use Rattle.lit_model.specs.Text.{chunks};
-ghost use Rattle.csl_entry.specs.Snapshot.{answer_at, keyed, kept_of, snapshot_answers, texts_in};
+ghost use Rattle.csl_entry.specs.Snapshot as spec;
+ghost use Rattle.csl_entry.specs.Snapshot.{snapshot_answers};
 
 use crate::entry::name::name_answer;
 use crate::entry::number::number_answer;
@@ -20,7 +21,7 @@ use std::borrow::{Cow, CowStr};
 
 /// The answer that is kept for a variable.
 fn answer_at<K: Copy + PartialEq, V>(kept: &[(K, V)], variable: K) -> Option<&V>
-    ensures { option_copied result ≡ answer_at K.eq kept.now variable }
+    ensures { option_copied result ≡ spec.answer_at K.eq kept.now variable }
 {
     for (answered, answer) in kept {
         if *answered == variable {
@@ -33,7 +34,7 @@ fn answer_at<K: Copy + PartialEq, V>(kept: &[(K, V)], variable: K) -> Option<&V>
 impl Snapshot {
     /// The texts that are kept in this form.
     fn texts(&self, form: LongShortForm) -> &[(StandardVariable, ChunkedString)]
-        ensures { map (keyed chunks) result.now ≡ texts_in form (kept_of self.now) }
+        ensures { map (spec.keyed chunks) result.now ≡ spec.texts_in form (spec.kept_of self.now) }
     {
         match form {
             LongShortForm::Long => &self.long_texts,

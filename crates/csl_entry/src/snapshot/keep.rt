@@ -10,7 +10,7 @@ ghost use Rattle.lit_model.specs.Page.{pages_view};
 ghost use Rattle.lit_model.specs.Person.{person_view};
 ghost use Rattle.lit_model.specs.Text.{chunks};
 ghost use Rattle.csl_entry.specs.Answers.{cow_view};
-ghost use Rattle.csl_entry.specs.Snapshot.{keyed, kept_answers, paired, some_people};
+ghost use Rattle.csl_entry.specs.Snapshot as spec;
 
 use crate::taxonomy::EntryLike;
 use csl_elements::{
@@ -86,7 +86,7 @@ fn owned_persons(alloc: Global, people: Vec<Cow<'_, Person>>) -> Result<Vec<Pers
 /// The persons, or `None` if there are none.
 fn some_people(people: Vec<Person>) -> Option<Vec<Person>>
     ensures { option_map (λ people. map person_view people.items) result
-        ≡ some_people (map person_view people.items) }
+        ≡ spec.some_people (map person_view people.items) }
 {
     if people.is_empty() {
         None
@@ -102,7 +102,7 @@ fn keep<K: Copy, V: Drop>(
     answer: Option<V>,
 ) -> Result<(), Memory>
     ensures { OnOk result (kept.new.items
-        ≡ kept.old.items ++ option_to_list (option_map (paired variable) answer)) }
+        ≡ kept.old.items ++ option_to_list (option_map (spec.paired variable) answer)) }
 {
     if let Some(answer) = answer {
         kept.push((variable, answer))?;
@@ -116,8 +116,8 @@ pub(super) fn numbers<T: EntryLike>(
     entry: &T,
     variables: &BTreeSet<NumberVariable>,
 ) -> Result<Vec<(NumberVariable, MaybeTyped<Numeric>)>, Memory>
-    ensures { IfOk result (λ kept. map (keyed (maybe_view numeric_view)) kept.items
-        ≡ kept_answers (T.answers entry.now).numbers variables.now.keys) }
+    ensures { IfOk result (λ kept. map (spec.keyed (maybe_view numeric_view)) kept.items
+        ≡ spec.kept_answers (T.answers entry.now).numbers variables.now.keys) }
 {
     let mut kept = Vec::new(alloc);
     for variable in variables {
@@ -134,8 +134,8 @@ pub(super) fn pages<T: EntryLike>(
     entry: &T,
     variables: &BTreeSet<PageVariable>,
 ) -> Result<Vec<(PageVariable, MaybeTyped<PageRanges>)>, Memory>
-    ensures { IfOk result (λ kept. map (keyed (maybe_view pages_view)) kept.items
-        ≡ kept_answers (T.answers entry.now).pages variables.now.keys) }
+    ensures { IfOk result (λ kept. map (spec.keyed (maybe_view pages_view)) kept.items
+        ≡ spec.kept_answers (T.answers entry.now).pages variables.now.keys) }
 {
     let mut kept = Vec::new(alloc);
     for variable in variables {
@@ -152,8 +152,8 @@ pub(super) fn texts<T: EntryLike>(
     form: LongShortForm,
     variables: &BTreeSet<StandardVariable>,
 ) -> Result<Vec<(StandardVariable, ChunkedString)>, Memory>
-    ensures { IfOk result (λ kept. map (keyed chunks) kept.items
-        ≡ kept_answers ((T.answers entry.now).standards form) variables.now.keys) }
+    ensures { IfOk result (λ kept. map (spec.keyed chunks) kept.items
+        ≡ spec.kept_answers ((T.answers entry.now).standards form) variables.now.keys) }
 {
     let mut kept = Vec::new(alloc);
     for variable in variables {
@@ -171,8 +171,9 @@ pub(super) fn names<T: EntryLike>(
     variables: &BTreeSet<NameVariable>,
 ) -> Result<Vec<(NameVariable, Vec<Person>)>, Memory>
     ensures { IfOk result (λ kept.
-        map (keyed (λ people. map person_view people.items)) kept.items
-        ≡ kept_answers (λ v. some_people ((T.answers entry.now).names v)) variables.now.keys) }
+        map (spec.keyed (λ people. map person_view people.items)) kept.items
+        ≡ spec.kept_answers (λ v. spec.some_people ((T.answers entry.now).names v))
+        variables.now.keys) }
 {
     let mut kept = Vec::new(alloc);
     for variable in variables {
@@ -189,8 +190,8 @@ pub(super) fn dates<T: EntryLike>(
     entry: &T,
     variables: &BTreeSet<DateVariable>,
 ) -> Result<Vec<(DateVariable, Date)>, Memory>
-    ensures { IfOk result (λ kept. map (keyed date_view) kept.items
-        ≡ kept_answers (T.answers entry.now).dates variables.now.keys) }
+    ensures { IfOk result (λ kept. map (spec.keyed date_view) kept.items
+        ≡ spec.kept_answers (T.answers entry.now).dates variables.now.keys) }
 {
     let mut kept = Vec::new(alloc);
     for variable in variables {

@@ -7,7 +7,7 @@ ghost use Rattle.csl_elements.specs.NamesOptions.{complete_options};
 ghost use Rattle.csl_elements.specs.Names.{view_name};
 ghost use Rattle.csl_elements.specs.NamesParts.{parts_node, names_node};
 ghost use Rattle.csl_elements.specs.View.{view_child, name_children};
-ghost use Rattle.csl_names.specs.NamesForms.{default_form, form_in, list_forms, default_forms, shown_count, count_of, saturated_count, hides_all, name_hides, each_hides, hides_names, writes_no_name};
+ghost use Rattle.csl_names.specs.NamesForms as spec;
 ghost use Rattle.csl_names.specs.NamesLists.{PersonLists, list_of};
 
 use crate::names::lists::{PersonList, all_empty};
@@ -18,7 +18,7 @@ use std::alloc::Global;
 
 /// The form of each name that is shown.
 pub(crate) fn default_form(options: &NameOptions<'_>) -> DisambiguatedNameForm
-    ensures { result ≡ default_form (complete_options options.now) }
+    ensures { result ≡ spec.default_form (complete_options options.now) }
 {
     let initialized = options.initialize && options.initialize_with.is_some();
     match options.form {
@@ -47,7 +47,7 @@ fn form_in(
     len: usize,
     place: usize,
 ) -> Option<DisambiguatedNameForm>
-    ensures { result ≡ form_in (complete_options options.now) later len place }
+    ensures { result ≡ spec.form_in (complete_options options.now) later len place }
 {
     if options.is_suppressed(place, len, later) {
         None
@@ -64,7 +64,7 @@ fn list_forms(
     len: usize,
 ) -> Result<Vec<Option<DisambiguatedNameForm>>, Memory>
     ensures { IfOk result (λ forms. forms.items
-        ≡ list_forms (complete_options options.now) later len) }
+        ≡ spec.list_forms (complete_options options.now) later len) }
 {
     let forms = (0..len)
         .map(|place| form_in(options, later, len, place))
@@ -80,7 +80,7 @@ pub(crate) fn default_forms(
     lists: &[PersonList<'_>],
 ) -> Result<Vec<Vec<Option<DisambiguatedNameForm>>>, Memory>
     ensures { IfOk result (λ forms. map (λ f. f.items) forms.items
-        ≡ default_forms (complete_options options.now) later (map list_of lists.now)) }
+        ≡ spec.default_forms (complete_options options.now) later (map list_of lists.now)) }
 {
     let mut forms = Vec::with_capacity(alloc, lists.len())?;
     for list in lists {
@@ -92,7 +92,7 @@ pub(crate) fn default_forms(
 
 /// The number of names in a list of `len` that are not left out.
 fn shown_count(options: &NameOptions<'_>, later: bool, len: usize) -> usize
-    ensures { result ≡ shown_count (complete_options options.now) later len }
+    ensures { result ≡ spec.shown_count (complete_options options.now) later len }
 {
     (0..len)
         .filter(|place| !options.is_suppressed(*place, len, later))
@@ -101,7 +101,7 @@ fn shown_count(options: &NameOptions<'_>, later: bool, len: usize) -> usize
 
 /// The number of names in all lists that are not left out, at most `usize::MAX`.
 pub(crate) fn count_of(options: &NameOptions<'_>, later: bool, lists: &[PersonList<'_>]) -> usize
-    ensures { result ≡ saturated_count (count_of (complete_options options.now) later
+    ensures { result ≡ spec.saturated_count (spec.count_of (complete_options options.now) later
         (map list_of lists.now)) }
 {
     let mut count: usize = 0;
@@ -113,7 +113,7 @@ pub(crate) fn count_of(options: &NameOptions<'_>, later: bool, lists: &[PersonLi
 
 /// Whether each list leaves out its names from the first on, by these two limits.
 fn hides_all(min: Option<u32>, first: Option<u32>, lists: &[PersonList<'_>]) -> bool
-    ensures { result ≡ hides_all min first (map list_of lists.now) }
+    ensures { result ≡ spec.hides_all min first (map list_of lists.now) }
 {
     let (Some(min), Some(0)) = (min, first) else {
         return false;
@@ -128,7 +128,7 @@ fn hides_all(min: Option<u32>, first: Option<u32>, lists: &[PersonList<'_>]) -> 
 
 /// Whether a name child hides all names, by its limits over those of its node.
 fn name_hides(min: Option<u32>, first: Option<u32>, name: &Name, lists: &[PersonList<'_>]) -> bool
-    ensures { result ≡ name_hides min first (map list_of lists.now) (view_name name.now) }
+    ensures { result ≡ spec.name_hides min first (map list_of lists.now) (view_name name.now) }
 {
     let min = name.options.et_al_min.or(min);
     let first = name.options.et_al_use_first.or(first);
@@ -143,7 +143,7 @@ fn each_hides(
     children: &[NamesChild],
     lists: &[PersonList<'_>],
 ) -> bool
-    ensures { result ≡ each_hides min first (map list_of lists.now)
+    ensures { result ≡ spec.each_hides min first (map list_of lists.now)
         (name_children (map view_child children.now)) }
 {
     let mut is_alone = true;
@@ -163,7 +163,7 @@ fn each_hides(
 
 /// Whether a names node is void: no list has a person, or its own options hide all names.
 pub fn writes_no_name(parts: NamesParts<'_>, lists: &[PersonList<'_>]) -> bool
-    ensures { result ≡ writes_no_name (parts_node parts.entry) (map list_of lists.now) }
+    ensures { result ≡ spec.writes_no_name (parts_node parts.entry) (map list_of lists.now) }
 {
     if all_empty(lists) {
         return true;
@@ -176,9 +176,9 @@ pub fn writes_no_name(parts: NamesParts<'_>, lists: &[PersonList<'_>]) -> bool
 /// void only without persons.
 #[tactic(auto, using(crate::proofs::Limits::never_hides))]
 pub fn may_hide(names: &Names) -> bool
-    ensures value { result ≡ hides_names (names_node names.now) [] }
+    ensures value { result ≡ spec.hides_names (names_node names.now) [] }
     ensures never { OnFalse result ((lists : PersonLists)
-        → hides_names (names_node names.now) lists ≡ false) }
+        → spec.hides_names (names_node names.now) lists ≡ false) }
 {
     let (min, first) = (names.options.et_al_min, names.options.et_al_use_first);
     each_hides(min, first, &names.children, &[])

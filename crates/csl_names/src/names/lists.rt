@@ -6,8 +6,7 @@ ghost use Rattle.lit_model.specs.Person.{person_view};
 ghost use Rattle.csl_entry.specs.Answers.{cow_view};
 ghost use Rattle.csl_context.specs.RenderInput.{peek_names};
 ghost use Rattle.csl_context.specs.Context.{Runs, GivesBy, render_input};
-ghost use Rattle.csl_names.specs.NamesLists.{all_empty, is_pair, may_merge, merged_lists, peeked_lists, each_resolved, state_after_resolve_all, resolved_lists, lists_state};
-ghost use Rattle.csl_names.specs.NamesLists.{list_of, lists_view};
+ghost use Rattle.csl_names.specs.NamesLists as spec;
 
 use csl_context::{Context, RenderError};
 use csl_entry::{EntryLike, same_people};
@@ -21,7 +20,7 @@ pub type PersonList<'a> = (Vec<Cow<'a, Person>>, NameVariable);
 
 /// Whether no list has a person.
 pub fn all_empty(lists: &[PersonList<'_>]) -> bool
-    ensures { result ≡ all_empty (map list_of lists.now) }
+    ensures { result ≡ spec.all_empty (map spec.list_of lists.now) }
 {
     for list in lists {
         if !list.0.is_empty() {
@@ -33,7 +32,7 @@ pub fn all_empty(lists: &[PersonList<'_>]) -> bool
 
 /// Whether the variables are the editors and the translators alone, in either order.
 fn is_pair(variables: &[NameVariable]) -> bool
-    ensures { result ≡ is_pair variables.now }
+    ensures { result ≡ spec.is_pair variables.now }
 {
     variables == [NameVariable::Editor, NameVariable::Translator].as_slice()
         || variables == [NameVariable::Translator, NameVariable::Editor].as_slice()
@@ -42,7 +41,7 @@ fn is_pair(variables: &[NameVariable]) -> bool
 /// Whether the lists of these variables may merge: they are the editors and the translators alone,
 /// and the style has the long term `editortranslator`.
 fn may_merge<T>(ctx: &Context<'_, T>, variables: &[NameVariable]) -> bool
-    ensures { result ≡ may_merge ctx.now.style variables.now }
+    ensures { result ≡ spec.may_merge ctx.now.style variables.now }
 {
     let both = Term::Name(NameVariable::EditorTranslator);
     is_pair(variables) && ctx.term(both, TermForm::Long, false).is_some()
@@ -55,8 +54,8 @@ fn merged_lists<'a>(
     editors: Vec<Cow<'a, Person>>,
     translators: Vec<Cow<'a, Person>>,
 ) -> Result<Vec<PersonList<'a>>, Memory>
-    ensures { IfOk result (λ lists. map list_of lists.items
-        ≡ merged_lists (map (cow_view person_view) editors.entry.items)
+    ensures { IfOk result (λ lists. map spec.list_of lists.items
+        ≡ spec.merged_lists (map (cow_view person_view) editors.entry.items)
         (map (cow_view person_view) translators.entry.items)) }
 {
     let mut lists = Vec::with_capacity(alloc, 2)?;
@@ -85,7 +84,7 @@ fn add<'a>(
     persons: Vec<Cow<'a, Person>>,
     variable: NameVariable,
 ) -> Result<(), Memory>
-    ensures { OnOk result (lists_view lists.new ≡ lists_view lists.old
+    ensures { OnOk result (spec.lists_view lists.new ≡ spec.lists_view lists.old
         ++ (map (cow_view person_view) persons.entry.items, variable) ∷ []) }
 {
     lists.push((persons, variable))?;
@@ -111,10 +110,10 @@ fn each_resolved<'s, T: EntryLike>(
     ctx: &mut Context<'s, T>,
     variables: &[NameVariable],
 ) -> Result<Vec<PersonList<'s>>, RenderError>
-    ensures value { GivesBy lists_view result
-        (each_resolved (render_input T.answers ctx.old) ctx.old.state variables.now) }
+    ensures value { GivesBy spec.lists_view result
+        (spec.each_resolved (render_input T.answers ctx.old) ctx.old.state variables.now) }
     ensures after { Runs (λ now. record now {
-      state = state_after_resolve_all (render_input T.answers now) now.state variables.now;
+      state = spec.state_after_resolve_all (render_input T.answers now) now.state variables.now;
     }) result ctx.old ctx.new }
 {
     ctx.ensure_live()?;
@@ -134,7 +133,8 @@ pub fn no_persons<'s, T: EntryLike>(
     ctx: &Context<'s, T>,
     variables: &[NameVariable],
 ) -> Result<bool, Memory>
-    ensures { IfOk result (λ b. b ≡ all_empty (peeked_lists (render_input T.answers ctx.now)
+    ensures { IfOk result (λ b. b
+        ≡ spec.all_empty (spec.peeked_lists (render_input T.answers ctx.now)
         ctx.now.state variables.now)) }
 {
     for variable in variables {
@@ -154,8 +154,8 @@ pub fn peeked_lists<'s, T: EntryLike>(
     ctx: &Context<'s, T>,
     variables: &[NameVariable],
 ) -> Result<Vec<PersonList<'s>>, Memory>
-    ensures { GivesBy lists_view result
-        (peeked_lists (render_input T.answers ctx.now) ctx.now.state variables.now) }
+    ensures { GivesBy spec.lists_view result
+        (spec.peeked_lists (render_input T.answers ctx.now) ctx.now.state variables.now) }
 {
     let mut lists = Vec::new(ctx.alloc());
     for variable in variables {
@@ -171,10 +171,10 @@ pub fn resolved_lists<'s, T: EntryLike>(
     ctx: &mut Context<'s, T>,
     variables: &[NameVariable],
 ) -> Result<Vec<PersonList<'s>>, RenderError>
-    ensures value { GivesBy lists_view result
-        (resolved_lists (render_input T.answers ctx.old) ctx.old.state variables.now) }
+    ensures value { GivesBy spec.lists_view result
+        (spec.resolved_lists (render_input T.answers ctx.old) ctx.old.state variables.now) }
     ensures after { Runs (λ now. record now {
-      state = lists_state (render_input T.answers now) now.state variables.now;
+      state = spec.lists_state (render_input T.answers now) now.state variables.now;
     }) result ctx.old ctx.new }
 {
     if may_merge(ctx, variables) {

@@ -11,7 +11,7 @@ ghost use Rattle.csl_tree.specs.Tokens.{meta_of};
 ghost use Rattle.csl_entry.specs.Answers.{cow_view};
 ghost use Rattle.csl_context.specs.Texts.{text_in};
 ghost use Rattle.csl_context.specs.Context.{Runs, IsInnermost, close_part_by, with_content};
-ghost use Rattle.csl_names.specs.NamesNode.{names_style, with_lists_kept, with_names_body, with_affixed_body, names_content, names_state, lists_meta, names_style_view};
+ghost use Rattle.csl_names.specs.NamesNode as spec;
 ghost use Rattle.csl_names.specs.NamesLists.{list_of};
 
 use crate::names::forms::count_of;
@@ -41,7 +41,7 @@ fn persons_of(alloc: Global, persons: &[Cow<'_, Person>]) -> Result<Vec<Person>,
 /// The meta of a names node's box: the persons with their variables.
 fn lists_meta(alloc: Global, lists: &[PersonList<'_>]) -> Result<ElemMeta, Memory>
     ensures { IfOk result (λ meta. Some (meta_of meta)
-        ≡ lists_meta (map list_of lists.now)) }
+        ≡ spec.lists_meta (map list_of lists.now)) }
 {
     let mut copies: Vec<(Vec<Person>, NameVariable)> = Vec::with_capacity(alloc, lists.len())?;
     for list in lists {
@@ -61,7 +61,7 @@ fn names_style<'n>(
 ) -> NamesStyle<'n>
     requires name { view_name missing_name.now ≡ default_name }
     requires et_al { view_et_al missing_et_al.now ≡ default_et_al }
-    ensures { names_style_view result ≡ names_style (parts_node parts.now)
+    ensures { spec.names_style_view result ≡ spec.names_style (parts_node parts.now)
         (inherited_options inherited.now) }
 {
     let name = parts.name().unwrap_or(missing_name);
@@ -90,7 +90,7 @@ fn push_lists_keeping_forms<T>(
     variables: &[NameVariable],
     lists: &[PersonList<'_>],
 ) -> Result<(), RenderError>
-    ensures { Runs (with_lists_kept (names_style_view style.now) variables.now
+    ensures { Runs (spec.with_lists_kept (spec.names_style_view style.now) variables.now
         (map list_of lists.now)) result ctx.old ctx.new }
 {
     let forms = forms_in(ctx, variables, &style.options, lists)?;
@@ -108,7 +108,7 @@ fn push_body<T>(
     lists: &[PersonList<'_>],
 ) -> Result<(), RenderError>
     requires { OnFalse ctx.old.failed (ctx.old.inner ≡ []) }
-    ensures { Runs (with_names_body (names_style_view style.now) variables.now
+    ensures { Runs (spec.with_names_body (spec.names_style_view style.now) variables.now
         (map list_of lists.now)) result ctx.old ctx.new }
 {
     match style.options.form {
@@ -132,8 +132,8 @@ fn push_affixed_body<T>(
     lists: &[PersonList<'_>],
 ) -> Result<(), RenderError>
     requires { OnFalse ctx.old.failed (ctx.old.inner ≡ []) }
-    ensures { Runs (with_affixed_body (option_map (λ t. t.now) parts.now.prefix)
-        (option_map (λ t. t.now) parts.now.suffix) (names_style_view style.now)
+    ensures { Runs (spec.with_affixed_body (option_map (λ t. t.now) parts.now.prefix)
+        (option_map (λ t. t.now) parts.now.suffix) (spec.names_style_view style.now)
         parts.now.variables.now (map list_of lists.now)) result ctx.old ctx.new }
 {
     if parts.prefix.is_none() && parts.suffix.is_none() {
@@ -154,7 +154,7 @@ pub fn commit_names<T>(
 ) -> Result<(), RenderError>
     requires innermost { IsInnermost mark ctx.old }
     ensures { Runs (close_part_by (λ _ c. elem_content display
-        (lists_meta (map list_of lists.now)) c))
+        (spec.lists_meta (map list_of lists.now)) c))
         result ctx.old ctx.new }
 {
     let meta = ctx.attempt(lists_meta(ctx.alloc(), lists))?;
@@ -170,10 +170,11 @@ pub fn write_names<T>(
     lists: &[PersonList<'_>],
 ) -> Result<(), RenderError>
     ensures { Runs (λ now. record now {
-      inner = now.inner ++> names_content now.style
+      inner = now.inner ++> spec.names_content now.style
           (is_some now.sorting) now.cite (parts_node parts.entry) (map list_of lists.now)
           now.inherited;
-      state = names_state now.cite (parts_node parts.entry) (map list_of lists.now) now.inherited
+      state = spec.names_state now.cite (parts_node parts.entry) (map list_of lists.now)
+          now.inherited
           now.state;
     }) result ctx.old ctx.new }
 {

@@ -8,7 +8,7 @@ ghost use Rattle.csl_elements.specs.Names.{view_label};
 ghost use Rattle.csl_elements.specs.NamesParts.{placed_label};
 ghost use Rattle.csl_entry.specs.Answers.{cow_view};
 ghost use Rattle.csl_context.specs.Context.{Runs, with_content};
-ghost use Rattle.csl_names.specs.NamesNode.{label_content, label_on, with_label, with_list, with_labelled_list, with_list_if_any, is_skipped, with_lists, with_names_written, names_style_view};
+ghost use Rattle.csl_names.specs.NamesNode as spec;
 ghost use Rattle.csl_names.specs.NamesLists.{list_of};
 
 use crate::list_styles::push_list_by;
@@ -37,7 +37,7 @@ fn label_on(
     after: bool,
 ) -> Option<&VariablelessLabel>
     ensures { option_map (λ l. view_label l.now) result
-        ≡ label_on sorting after (option_map placed_label label.entry) }
+        ≡ spec.label_on sorting after (option_map placed_label label.entry) }
 {
     match label {
         None => None,
@@ -57,7 +57,7 @@ fn push_term<T>(
     label: &VariablelessLabel,
     term: &str,
 ) -> Result<(), RenderError>
-    ensures { Runs (with_content (label_content (view_label label.now) term.now))
+    ensures { Runs (with_content (spec.label_content (view_label label.now) term.now))
         result ctx.old ctx.new }
 {
     let around = BodyDressing {
@@ -81,8 +81,8 @@ impl NamesStyle<'_> {
         variable: NameVariable,
         count: usize,
     ) -> Result<(), RenderError>
-        ensures { Runs (with_names_written (λ w. with_label w
-            (label_on w.sorting after (names_style_view self.now).label) variable count))
+        ensures { Runs (spec.with_names_written (λ w. spec.with_label w
+            (spec.label_on w.sorting after (spec.names_style_view self.now).label) variable count))
             result ctx.old ctx.new }
     {
         let sorting = ctx.sorting().is_some();
@@ -103,7 +103,8 @@ impl NamesStyle<'_> {
         variable: NameVariable,
         forms: &[Option<DisambiguatedNameForm>],
     ) -> Result<(), RenderError>
-        ensures { Runs (with_names_written (λ w. with_list w (names_style_view self.now)
+        ensures { Runs (spec.with_names_written (λ w. spec.with_list w (spec.names_style_view
+            self.now)
             (map (cow_view person_view) persons.now) variable forms.now)) result ctx.old ctx.new }
     {
         let before = ctx.enter_format(self.name.formatting)?;
@@ -130,7 +131,8 @@ impl NamesStyle<'_> {
         variable: NameVariable,
         forms: &[Option<DisambiguatedNameForm>],
     ) -> Result<(), RenderError>
-        ensures { Runs (with_names_written (λ w. with_labelled_list w (names_style_view self.now)
+        ensures { Runs (spec.with_names_written (λ w. spec.with_labelled_list w
+            (spec.names_style_view self.now)
             first (map (cow_view person_view) persons.now) variable forms.now))
             result ctx.old ctx.new }
     {
@@ -151,7 +153,8 @@ impl NamesStyle<'_> {
         variable: NameVariable,
         forms: Option<&[Option<DisambiguatedNameForm>]>,
     ) -> Result<(), RenderError>
-        ensures { Runs (with_names_written (λ w. with_list_if_any w (names_style_view self.now)
+        ensures { Runs (spec.with_names_written (λ w. spec.with_list_if_any w (spec.names_style_view
+            self.now)
             first (map (cow_view person_view) persons.now) variable
             (option_map (λ f. f.now) forms.entry))) result ctx.old ctx.new }
     {
@@ -174,7 +177,8 @@ impl NamesStyle<'_> {
         lists: &[PersonList<'_>],
         forms: &[Vec<Option<DisambiguatedNameForm>>],
     ) -> Result<(), RenderError>
-        ensures { Runs (with_names_written (λ w. with_lists w (names_style_view self.now)
+        ensures { Runs (spec.with_names_written (λ w. spec.with_lists w (spec.names_style_view
+            self.now)
             true 0 (map (λ f. f.items) forms.now) (map list_of lists.now)))
             result ctx.old ctx.new }
     {
@@ -207,7 +211,7 @@ fn forms_at(
 
 /// Whether a list is left out: it is empty, or has no forms.
 fn is_skipped(persons: &[Cow<'_, Person>], forms: Option<&[Option<DisambiguatedNameForm>]>) -> bool
-    ensures { result ≡ is_skipped (map (cow_view person_view) persons.now)
+    ensures { result ≡ spec.is_skipped (map (cow_view person_view) persons.now)
         (option_map (λ f. f.now) forms.entry) }
 {
     match forms {

@@ -3,7 +3,7 @@
 ghost use Rattle.std.specs.Prelude.{◌≡◌, ◌<◌, true, OnOk, OnErr, replicate};
 ghost use Rattle.std.specs.Fmt.{WritesInCalls};
 ghost use Rattle.lit_model.specs.Characters.{letter_m};
-ghost use Rattle.lit_model.specs.Roman.{hundreds, tens, units, roman};
+ghost use Rattle.lit_model.specs.Roman as spec;
 
 use csl_common::Sink;
 use std::fmt;
@@ -24,7 +24,7 @@ fn thousands(digit: u32) -> &'static str
 /// The digits for the hundreds.
 fn hundreds(digit: u32) -> &'static str
     requires { digit < 10 }
-    ensures { result.now ≡ hundreds digit }
+    ensures { result.now ≡ spec.hundreds digit }
 {
     match digit {
         0 => "",
@@ -43,7 +43,7 @@ fn hundreds(digit: u32) -> &'static str
 /// The digits for the tens.
 fn tens(digit: u32) -> &'static str
     requires { digit < 10 }
-    ensures { result.now ≡ tens digit }
+    ensures { result.now ≡ spec.tens digit }
 {
     match digit {
         0 => "",
@@ -62,7 +62,7 @@ fn tens(digit: u32) -> &'static str
 /// The digits for the units.
 fn units(digit: u32) -> &'static str
     requires { digit < 10 }
-    ensures { result.now ≡ units digit }
+    ensures { result.now ≡ spec.units digit }
 {
     match digit {
         0 => "",
@@ -82,7 +82,7 @@ fn units(digit: u32) -> &'static str
 #[tactic(auto, using(csl_common::proofs::Writes::four_writes))]
 pub fn write_roman<S: Sink>(sink: &mut S, number: u32) -> fmt::Result
     requires { number < 4000 }
-    ensures ok { OnOk result (WritesInCalls S.write_str_gives sink.old (roman number) sink.new) }
+    ensures ok { OnOk result (WritesInCalls S.write_str_gives sink.old (spec.roman number) sink.new) }
     ensures kept { OnOk result (S.refused sink.new ≡ S.refused sink.old) }
     ensures err { OnErr result (S.refused sink.new ≡ true) }
 {
