@@ -2,6 +2,7 @@
 //! Definitions: specs/Entries.antt.
 
 ghost use Rattle.std.specs.Prelude.{◌≡◌, IfOk, string_bytes};
+ghost use Rattle.csl_samples.specs.declared.entries.BuiltIn.{BuiltIn};
 ghost use Rattle.csl_samples.specs.Entries.{IsBuiltIn, label_text, is_built_in_kind};
 
 use crate::entries::BuiltIn;
@@ -15,9 +16,9 @@ impl BuiltIn {
     pub fn label(self, alloc: Global) -> Result<String, Memory>
         ensures { IfOk result (λ label. string_bytes label ≡ label_text self) }
     {
-        let work = self.entry(alloc)?;
-        let label = label_of(alloc, self, &work);
-        drop(work);
+        let entry = self.entry(alloc)?;
+        let label = label_of(alloc, &entry);
+        drop(entry);
         label
     }
 
@@ -26,26 +27,23 @@ impl BuiltIn {
         ensures { IfOk result (λ answer. answer ≡ is_built_in_kind kind self) }
     {
         let work = self.entry(alloc)?;
-        let answer = is_of_kind(self, kind, &work);
+        let answer = is_of_kind(kind, &work);
         drop(work);
         Ok(answer)
     }
 }
 
-/// The label, with three letters, of an [`Entry`] that is this built-in entry. Which one it is
-/// matters for the clauses alone.
-fn label_of(alloc: Global, _entry: BuiltIn, work: &Entry) -> Result<String, Memory>
-    requires { IsBuiltIn _entry work.now }
-    ensures { IfOk result (λ label. string_bytes label ≡ label_text _entry) }
+/// The label, with three letters, of an [`Entry`]. The clause is for those that are built in.
+fn label_of(alloc: Global, work: &Entry) -> Result<String, Memory>
+    ensures { (entry : BuiltIn) → IsBuiltIn entry work.now
+        → IfOk result (λ label. string_bytes label ≡ label_text entry) }
 {
     Alphanumerical::new().citation(alloc, work)
 }
 
-/// Whether an [`Entry`] that is this built-in entry is of a kind. Which one it is matters for the
-/// clauses alone.
-fn is_of_kind(_entry: BuiltIn, kind: Kind, work: &Entry) -> bool
-    requires { IsBuiltIn _entry work.now }
-    ensures { result ≡ is_built_in_kind kind _entry }
+/// Whether an [`Entry`] is of a kind. The clause is for those that are built in.
+fn is_of_kind(kind: Kind, work: &Entry) -> bool
+    ensures { (entry : BuiltIn) → IsBuiltIn entry work.now → result ≡ is_built_in_kind kind entry }
 {
     work.matches_entry_type(kind)
 }
