@@ -1,6 +1,6 @@
 use Rattle.std.proofs.Common.{[], ap, subst, ◌∙◌}
 use Rattle.csl_elements.specs.Node.{expand_nodes, expanded_macro}
-use Rattle.csl_elements.specs.View.{view_nodes, text_dressing}
+use Rattle.csl_elements.specs.View.{view_nodes}
 use Rattle.csl_style.specs.Expanded.{macro_env}
 use Rattle.csl_context.specs.Context.{render_input}
 use Rattle.csl_nodes.specs.Usage.{without_group_flag, macro_info}
@@ -10,14 +10,14 @@ use Rattle.csl_render.proofs.Plans.{adds_as, asked, around}
 use Rattle.csl_render.proofs.text.plan_call.Goals as goal
 
 pub returns : goal.returns
-returns g c =
+returns g c d =
     let now = c.args.ctx.now in
     let answers = g.T.EntryLike.answers in
     let w = render_input answers now in
     let at = dry_now now in
     let ns = view_nodes c.args.nodes.now in
     let fs = expand_nodes (macro_env now.style) ns in
-    let f = expanded_macro fs (text_dressing c.args._text.now) in
+    let f = expanded_macro fs d in
     let nodes = c.in_ok-info.info in
     let call = c.with_answer-call in
     let start : Run g.row.T.Denot = record { now = now; items = [] } in
