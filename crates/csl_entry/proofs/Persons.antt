@@ -10,7 +10,7 @@ use Rattle.std.proofs.lemmas.Simd.{map-map}
 use Rattle.lit_model.specs.declared.person.Person.{Person}
 use Rattle.lit_model.specs.contracts.person.PersonPartialEq.TheImpl.{eq-value as eq_person}
 use Rattle.lit_model.specs.Person.{PersonView, person_view}
-use Rattle.lit_model.specs.SamePerson.{same_person, same_people}
+use Rattle.lit_model.specs.SamePerson.{same_person, same_persons}
 use Rattle.lit_model.proofs.PageEqual.{pointwise_view}
 use Rattle.lit_model.proofs.PersonEqual.{person_decides}
 use Rattle.lit_model.proofs.SamePersons.{person_same}
@@ -31,22 +31,22 @@ both_same a b c d h k = λ i. h i && k i
 abbrev equal_behind : Cow Person → Cow Person → Bool
 equal_behind c d = eq_person.it (cow_value c) (cow_value d)
 
-pub people_decide : (ps qs : List (Cow Person)) → Decides (pointwise equal_behind ps qs) (map (cow_view person_view) ps ≡ map (cow_view person_view) qs)
-people_decide ps qs = pointwise_view equal_behind (cow_view person_view) (λ c d. person_decides (cow_value c) (cow_value d)) ps qs
+pub persons_decide : (ps qs : List (Cow Person)) → Decides (pointwise equal_behind ps qs) (map (cow_view person_view) ps ≡ map (cow_view person_view) qs)
+persons_decide ps qs = pointwise_view equal_behind (cow_view person_view) (λ c d. person_decides (cow_value c) (cow_value d)) ps qs
 
-pub people_same : (ps qs : List (Cow Person)) → pointwise equal_behind ps qs ≡ same_people (map (cow_view person_view) ps) (map (cow_view person_view) qs)
-people_same [] [] = refl
-people_same [] (q ∷ qs) = refl
-people_same (p ∷ ps) [] = refl
-people_same (p ∷ ps) (q ∷ qs) = both_same _ _ _ _ (person_same (cow_value p) (cow_value q)) (people_same ps qs)
+pub persons_same : (ps qs : List (Cow Person)) → pointwise equal_behind ps qs ≡ same_persons (map (cow_view person_view) ps) (map (cow_view person_view) qs)
+persons_same [] [] = refl
+persons_same [] (q ∷ qs) = refl
+persons_same (p ∷ ps) [] = refl
+persons_same (p ∷ ps) (q ∷ qs) = both_same _ _ _ _ (person_same (cow_value p) (cow_value q)) (persons_same ps qs)
 
 and_false : (b : Bool) → (b && false) ≡ false
 and_false true = refl
 and_false false = refl
 
 -- lists of different lengths do not show the same
-pub people_apart : (xs ys : List PersonView) → (length xs ≡ length ys → ⊥) → same_people xs ys ≡ false
-people_apart [] [] h = absurd (h refl)
-people_apart [] (y ∷ ys) h = refl
-people_apart (x ∷ xs) [] h = refl
-people_apart (x ∷ xs) (y ∷ ys) h = ap (λ b. same_person x y && b) (people_apart xs ys (λ e. h (omega (arith, e)))) ∙ and_false (same_person x y)
+pub persons_apart : (xs ys : List PersonView) → (length xs ≡ length ys → ⊥) → same_persons xs ys ≡ false
+persons_apart [] [] h = absurd (h refl)
+persons_apart [] (y ∷ ys) h = refl
+persons_apart (x ∷ xs) [] h = refl
+persons_apart (x ∷ xs) (y ∷ ys) h = ap (λ b. same_person x y && b) (persons_apart xs ys (λ e. h (omega (arith, e)))) ∙ and_false (same_person x y)

@@ -49,8 +49,8 @@ use Rattle.csl_entry.proofs.ResultEqual.{pages_or_text}
 pairs_decide : {K V W : Type 0} (E : K → K → Bool) (F : V → V → Bool) (view : V → W) → ((a b : K) → Decides (E a b) (a ≡ b)) → ((x y : V) → Decides (F x y) (view x ≡ view y)) → (ps qs : List (K × V)) → Decides (pointwise (λ p q. E p.0 q.0 && F p.1 q.1) ps qs) (map (keyed view) ps ≡ map (keyed view) qs)
 pairs_decide E F view d e = pointwise_view (λ p q. E p.0 q.0 && F p.1 q.1) (keyed view) (λ p q. through _ (both _ _ (d p.0 q.0) (e p.1 q.1)) (λ h. λ i. (h.0 i, h.1 i)) (λ h. (ap (λ x. x.0) h, ap (λ x. x.1) h)))
 
-people_decide : (x y : Vec Person Global) → Decides (pointwise eq_person.it x.items y.items) (map person_view x.items ≡ map person_view y.items)
-people_decide x y = pointwise_view eq_person.it person_view person_decides x.items y.items
+persons_decide : (x y : Vec Person Global) → Decides (pointwise eq_person.it x.items y.items) (map person_view x.items ≡ map person_view y.items)
+persons_decide x y = pointwise_view eq_person.it person_view person_decides x.items y.items
 
 number_or_text : (x y : MaybeTyped Numeric) → Decides ((eq_maybe numeric_row numeric_ghosts no_dict).it x y) (maybe_view numeric_view x ≡ maybe_view numeric_view y)
 number_or_text x y = maybe_decides numeric_row numeric_ghosts no_dict numeric_view numeric_decides x y
@@ -64,7 +64,7 @@ snapshots_decide s t = through _
     (both _ _ (pairs_decide eq_of_page.it (eq_maybe pages_row pages_ghosts no_dict).it (maybe_view pages_view) page_decides pages_or_text s.pages.items t.pages.items)
     (both _ _ (pairs_decide eq_of_standard.it eq_chunks.it chunks standard_decides chunks_decide s.long_texts.items t.long_texts.items)
     (both _ _ (pairs_decide eq_of_standard.it eq_chunks.it chunks standard_decides chunks_decide s.short_texts.items t.short_texts.items)
-    (both _ _ (pairs_decide eq_of_name.it (λ x y. pointwise eq_person.it x.items y.items) (λ people. map person_view people.items) name_decides people_decide s.names.items t.names.items)
+    (both _ _ (pairs_decide eq_of_name.it (λ x y. pointwise eq_person.it x.items y.items) (λ persons. map person_view persons.items) name_decides persons_decide s.names.items t.names.items)
     (both _ _ (pairs_decide eq_of_date.it eq_date.it date_view of_date_decides date_decides s.dates.items t.dates.items)
     (kinds_decide s.kinds.items t.kinds.items)))))))
     (λ h. λ i. record { numbers = h.0 i; pages = h.1.0 i; long_texts = h.1.1.0 i; short_texts = h.1.1.1.0 i; names = h.1.1.1.1.0 i; dates = h.1.1.1.1.1.0 i; kinds = h.1.1.1.1.1.1 i })

@@ -55,9 +55,9 @@ abbrev pub kept_answers : {K V : Type 0} → (K → Option V) → List K → Lis
 kept_answers answer keys = filter_map (with_answer answer) keys
 
 -- the persons, if there are any
-abbrev pub some_people : List PersonView → Option (List PersonView)
-some_people [] = None
-some_people (p ∷ ps) = Some (p ∷ ps)
+abbrev pub some_persons : List PersonView → Option (List PersonView)
+some_persons [] = None
+some_persons (p ∷ ps) = Some (p ∷ ps)
 
 -- the snapshot of an entry with these answers
 abbrev pub snapshot_of : Named → Answers → Kept
@@ -66,7 +66,7 @@ snapshot_of n a = record {
   pages = kept_answers a.pages n.pages.keys;
   long_texts = kept_answers (a.standards Long) n.standards.keys;
   short_texts = kept_answers (a.standards Short) n.standards.keys;
-  names = kept_answers (λ v. some_people (a.names v)) n.names.keys;
+  names = kept_answers (λ v. some_persons (a.names v)) n.names.keys;
   dates = kept_answers a.dates n.dates.keys;
   kinds = filter a.kinds n.kinds.keys;
 }
@@ -78,9 +78,9 @@ abbrev pub answer_at : {K V : Type 0} → (K → K → Bool) → List (K × V) �
 answer_at same [] key = None
 answer_at same (p ∷ ps) key = cond (same p.0 key) (Some p.1) (answer_at same ps key)
 
-abbrev pub people_or_none : Option (List PersonView) → List PersonView
-people_or_none None = []
-people_or_none (Some people) = people
+abbrev pub persons_or_none : Option (List PersonView) → List PersonView
+persons_or_none None = []
+persons_or_none (Some persons) = persons
 
 abbrev pub texts_in : LongShortForm → Kept → List (StandardVariable × List Chunk)
 texts_in Long k = k.long_texts
@@ -91,7 +91,7 @@ kept_in k = record {
   numbers = answer_at same_number.it k.numbers;
   pages = answer_at same_page.it k.pages;
   standards = λ form. answer_at same_standard.it (texts_in form k);
-  names = λ v. people_or_none (answer_at same_name.it k.names v);
+  names = λ v. persons_or_none (answer_at same_name.it k.names v);
   dates = answer_at same_date.it k.dates;
   kinds = λ kind. list_any (λ x. same_kind.it x kind) k.kinds;
 }
@@ -118,7 +118,7 @@ kept_of s = record {
   pages = map (keyed (maybe_view pages_view)) s.pages.items;
   long_texts = map (keyed chunks) s.long_texts.items;
   short_texts = map (keyed chunks) s.short_texts.items;
-  names = map (keyed (λ people. map person_view people.items)) s.names.items;
+  names = map (keyed (λ persons. map person_view persons.items)) s.names.items;
   dates = map (keyed date_view) s.dates.items;
   kinds = s.kinds.items;
 }

@@ -19,7 +19,7 @@ pub use citation::{
     SpeculativeCiteProperties, letter,
 };
 pub use compare::{
-    as_deref, same_answers, same_date, same_number, same_pages, same_people, same_text,
+    as_deref, same_answers, same_date, same_number, same_pages, same_persons, same_text,
 };
 pub use entry::{csl_language, legislation_kind, recording_kind};
 pub use forms::{DisambiguatedNameForm, NameDisambiguationProperties};

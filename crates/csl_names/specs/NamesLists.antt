@@ -15,7 +15,7 @@ use Rattle.std.specs.declared.alloc.Global.{Global}
 use Rattle.std.specs.declared.borrow.Cow.{Cow}
 use Rattle.std.specs.declared.vec.Vec.{Vec}
 use Rattle.lit_model.specs.Person.{PersonView, person_view}
-use Rattle.lit_model.specs.SamePerson.{same_people}
+use Rattle.lit_model.specs.SamePerson.{same_persons}
 use Rattle.lit_model.specs.declared.person.Person.{Person}
 use Rattle.csl_elements.specs.contracts.taxonomy.NameVariable.{the_type}
 use Rattle.csl_elements.specs.declared.taxonomy.NameVariable.{NameVariable}
@@ -59,7 +59,7 @@ merged_lists [] [] = []
 merged_lists [] (t ∷ ts) = (t ∷ ts, Translator) ∷ []
 merged_lists (e ∷ es) [] = (e ∷ es, Editor) ∷ []
 merged_lists (e ∷ es) (t ∷ ts) =
-    if same_people (e ∷ es) (t ∷ ts) then (e ∷ es, EditorTranslator) ∷ [] else (e ∷ es, Editor) ∷ (t ∷ ts, Translator) ∷ []
+    if same_persons (e ∷ es) (t ∷ ts) then (e ∷ es, EditorTranslator) ∷ [] else (e ∷ es, Editor) ∷ (t ∷ ts, Translator) ∷ []
 
 -- ---- the lists of a node
 

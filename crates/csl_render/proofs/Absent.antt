@@ -6,7 +6,7 @@ use Rattle.std.specs.Prelude.{◌||◌, ◌&&◌, is_some, if◌then◌else◌}
 use Rattle.std.proofs.lemmas.Bool.{false≢true, and_parts}
 use Rattle.std.proofs.lemmas.Slice.Eq.{slice_eq-Decides}
 use Rattle.lit_model.specs.Person.{PersonView}
-use Rattle.lit_model.specs.SamePerson.{same_people}
+use Rattle.lit_model.specs.SamePerson.{same_persons}
 use Rattle.csl_elements.specs.contracts.taxonomy.VariablePartialEq.TheImpl.{eq-value as eq_variable}
 use Rattle.csl_elements.specs.declared.taxonomy.NameVariable.{NameVariable}
 use Rattle.csl_elements.specs.declared.taxonomy.NameVariable.TheVariants.{Author, Editor, Translator, EditorTranslator}
@@ -43,12 +43,12 @@ other_kept s v x other = still_in s.suppressing v x s.suppressed other
 same_name : (x v : NameVariable) → eq_variable.it (variable.Name x) (variable.Name v) ≡ true → x ≡ v
 same_name x v h = let same : variable.Name x ≡ variable.Name v = (variable_decides (variable.Name x) (variable.Name v)).0 h in cc
 
-still_none : (before after : Bool) (people : List PersonView) → (before ≡ true → after ≡ true) → (if before then [] else people) ≡ [] → (if before then [] else people) ≡ (if after then [] else people)
-still_none true after people kept none = ap (λ b. if b then [] else people) (sym (kept refl))
-still_none false true people kept none = none
-still_none false false people kept none = refl
+still_none : (before after : Bool) (persons : List PersonView) → (before ≡ true → after ≡ true) → (if before then [] else persons) ≡ [] → (if before then [] else persons) ≡ (if after then [] else persons)
+still_none true after persons kept none = ap (λ b. if b then [] else persons) (sym (kept refl))
+still_none false true persons kept none = none
+still_none false false persons kept none = refl
 
-empty_is : (people : List PersonView) → has_none people ≡ true → people ≡ []
+empty_is : (persons : List PersonView) → has_none persons ≡ true → persons ≡ []
 empty_is [] h = refl
 empty_is (p ∷ ps) h = absurd (false≢true h)
 
@@ -119,7 +119,7 @@ module _ (w : RenderInput) where
   none_of_two [] [] = refl
   none_of_two [] (t ∷ ts) = refl
   none_of_two (e ∷ es) [] = refl
-  none_of_two (e ∷ es) (t ∷ ts) = some_of_two e t es ts (same_people (e ∷ es) (t ∷ ts))
+  none_of_two (e ∷ es) (t ∷ ts) = some_of_two e t es ts (same_persons (e ∷ es) (t ∷ ts))
 
   module _ (s : State) where
     abbrev between : State

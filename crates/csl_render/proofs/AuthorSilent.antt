@@ -87,13 +87,13 @@ suppressing_author w = record w { instance = record w.instance { special = Some 
 
 -- the answers with other authors
 abbrev with_authors : List PersonView → Answers → Answers
-with_authors people a = record a { names = λ y. if sameb the_type y Author then people else a.names y }
+with_authors persons a = record a { names = λ y. if sameb the_type y Author then persons else a.names y }
 
-module _ (a : Answers) (people : List PersonView) where
+module _ (a : Answers) (persons : List PersonView) where
   abbrev other : Answers
-  other = with_authors people a
+  other = with_authors persons a
 
-  other_names : (y : NameVariable) (is_author : Bool) → is_author ≡ false → a.names y ≡ (if is_author then people else a.names y)
+  other_names : (y : NameVariable) (is_author : Bool) → is_author ≡ false → a.names y ≡ (if is_author then persons else a.names y)
   other_names y true e = absurd (false≢true (sym e))
   other_names y false e = refl
 
@@ -120,16 +120,16 @@ module _ (a : Answers) (people : List PersonView) where
 
     -- ---- lists of names without the author
 
-    people_same : (s : State) (y : NameVariable) → sameb the_type y Author ≡ false → peek_names v s y ≡ peek_names u s y
-    people_same s y e = ap (λ l. if is_suppressed s (variable.Name y) then [] else l) (other_names y (sameb the_type y Author) e)
+    persons_same : (s : State) (y : NameVariable) → sameb the_type y Author ≡ false → peek_names v s y ≡ peek_names u s y
+    persons_same s y e = ap (λ l. if is_suppressed s (variable.Name y) then [] else l) (other_names y (sameb the_type y Author) e)
 
     peeked_same : (s : State) (ys : List NameVariable) → has_variable Author ys ≡ false → peeked_lists v s ys ≡ peeked_lists u s ys
     peeked_same s [] h = refl
-    peeked_same s (y ∷ ys) h = ap₂ (λ (l : List PersonView) (ls : PersonLists). (l, y) ∷ ls) (people_same s y (none_left _ _ h)) (peeked_same s ys (none_right (sameb the_type y Author) _ h))
+    peeked_same s (y ∷ ys) h = ap₂ (λ (l : List PersonView) (ls : PersonLists). (l, y) ∷ ls) (persons_same s y (none_left _ _ h)) (peeked_same s ys (none_right (sameb the_type y Author) _ h))
 
     each_same : (s : State) (ys : List NameVariable) → has_variable Author ys ≡ false → each_resolved v s ys ≡ each_resolved u s ys
     each_same s [] h = refl
-    each_same s (y ∷ ys) h = ap₂ (λ (l : List PersonView) (ls : PersonLists). (l, y) ∷ ls) (people_same s y (none_left _ _ h)) (each_same (state_after_resolve (variable.Name y) s) ys (none_right (sameb the_type y Author) _ h))
+    each_same s (y ∷ ys) h = ap₂ (λ (l : List PersonView) (ls : PersonLists). (l, y) ∷ ls) (persons_same s y (none_left _ _ h)) (each_same (state_after_resolve (variable.Name y) s) ys (none_right (sameb the_type y Author) _ h))
 
     resolved_same : (s : State) (ys : List NameVariable) → has_variable Author ys ≡ false → resolved_lists v s ys ≡ resolved_lists u s ys
     resolved_same s ys h =

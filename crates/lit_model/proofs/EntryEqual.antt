@@ -42,7 +42,7 @@ use Rattle.lit_model.specs.Text.{format_string_view}
 use Rattle.lit_model.specs.Work.{own_of, Work, work_of, works, Spelled, spelled_of, spelled_works}
 use Rattle.lit_model.proofs.ByValue.{both, through, option_view, option_same, text_decides}
 use Rattle.lit_model.proofs.Depth.{EachOf, depth_of, parents_less}
-use Rattle.lit_model.proofs.EntryStep.{same_people, same_groups, same_maybe_number, same_maybe_pages, eq_out}
+use Rattle.lit_model.proofs.EntryStep.{same_persons, same_groups, same_maybe_number, same_maybe_pages, eq_out}
 use Rattle.lit_model.proofs.MaybeEqual.{maybe_decides, pages_decide}
 use Rattle.lit_model.proofs.PageEqual.{numeric_decides, pointwise_view}
 use Rattle.lit_model.proofs.PersonEqual.{person_decides, group_decides}
@@ -56,8 +56,8 @@ types_decide a b = search rules
 dates_same : (a b : Date) → Decides (eq_date.it a b) (a ≡ b)
 dates_same a b = through _ (date_decides a b) (same_date a b) (ap date_view)
 
-people_decide : (v w : Vec Person Global) → Decides (same_people v w) (map person_view v.items ≡ map person_view w.items)
-people_decide v w = pointwise_view eq_person.it person_view person_decides v.items w.items
+persons_decide : (v w : Vec Person Global) → Decides (same_persons v w) (map person_view v.items ≡ map person_view w.items)
+persons_decide v w = pointwise_view eq_person.it person_view person_decides v.items w.items
 
 groups_decide : (v w : Vec PersonsWithRoles Global) → Decides (same_groups v w) (map role_group v.items ≡ map role_group w.items)
 groups_decide v w = pointwise_view eq_group.it role_group group_decides v.items w.items
@@ -85,8 +85,8 @@ one_level a b parents = subst (λ q. Decides q (spelled_works a ≡ spelled_work
     (both _ _ (text_decides (out-Entry a).key (out-Entry b).key)
     (both _ _ (types_decide (out-Entry a).entry_type (out-Entry b).entry_type)
     (both _ _ (option_view eq_forms.it format_string_view forms_decide (out-Entry a).title (out-Entry b).title)
-    (both _ _ (option_view same_people (λ v. map person_view v.items) people_decide (out-Entry a).authors (out-Entry b).authors)
-    (both _ _ (option_view same_people (λ v. map person_view v.items) people_decide (out-Entry a).editors (out-Entry b).editors)
+    (both _ _ (option_view same_persons (λ v. map person_view v.items) persons_decide (out-Entry a).authors (out-Entry b).authors)
+    (both _ _ (option_view same_persons (λ v. map person_view v.items) persons_decide (out-Entry a).editors (out-Entry b).editors)
     (both _ _ (option_same eq_date.it dates_same (out-Entry a).date (out-Entry b).date)
     (both _ _ (option_view eq_url.it address_text url_text_decides (out-Entry a).url (out-Entry b).url)
     (both _ _ (option_view same_groups (λ v. map role_group v.items) groups_decide (out-Entry a).affiliated (out-Entry b).affiliated)

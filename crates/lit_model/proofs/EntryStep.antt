@@ -32,8 +32,8 @@ use Rattle.lit_model.specs.contracts.text.FormatStringPartialEq.TheImpl.{eq-valu
 use Rattle.lit_model.specs.Entry.{parents_of}
 use Rattle.lit_model.proofs.Depth.{EachOf, depth_of, parents_less}
 
-abbrev pub same_people : Vec Person Global → Vec Person Global → Bool
-same_people v w = pointwise eq_person.it v.items w.items
+abbrev pub same_persons : Vec Person Global → Vec Person Global → Bool
+same_persons v w = pointwise eq_person.it v.items w.items
 
 abbrev pub same_groups : Vec PersonsWithRoles Global → Vec PersonsWithRoles Global → Bool
 same_groups v w = pointwise eq_group.it v.items w.items
@@ -50,8 +50,8 @@ same_fields a b parents =
     bytes_eq (string_bytes (out-Entry a).key) (string_bytes (out-Entry b).key)
     && (eq_type.it (out-Entry a).entry_type (out-Entry b).entry_type
     && (option_eq eq_forms.it (out-Entry a).title (out-Entry b).title
-    && (option_eq same_people (out-Entry a).authors (out-Entry b).authors
-    && (option_eq same_people (out-Entry a).editors (out-Entry b).editors
+    && (option_eq same_persons (out-Entry a).authors (out-Entry b).authors
+    && (option_eq same_persons (out-Entry a).editors (out-Entry b).editors
     && (option_eq eq_date.it (out-Entry a).date (out-Entry b).date
     && (option_eq eq_url.it (out-Entry a).url (out-Entry b).url
     && (option_eq same_groups (out-Entry a).affiliated (out-Entry b).affiliated

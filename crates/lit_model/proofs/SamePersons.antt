@@ -8,7 +8,7 @@ use Rattle.std.specs.declared.alloc.Global.{Global}
 use Rattle.lit_model.specs.declared.person.Person.{Person}
 use Rattle.lit_model.specs.contracts.person.PersonPartialEq.TheImpl.{eq-value as eq_person}
 use Rattle.lit_model.specs.Person.{person_view}
-use Rattle.lit_model.specs.SamePerson.{same_person, same_people}
+use Rattle.lit_model.specs.SamePerson.{same_person, same_persons}
 
 both_same : (a b c d : Bool) → a ≡ b → c ≡ d → (a && c) ≡ (b && d)
 both_same a b c d h k = λ i. h i && k i
@@ -27,8 +27,8 @@ person_same p q =
     (both_same _ _ _ _ (optional_same p.suffix q.suffix)
     (both_same _ _ _ _ (optional_same p.alias q.alias) refl))))
 
-pub people_same : (ps qs : List Person) → pointwise eq_person.it ps qs ≡ same_people (map person_view ps) (map person_view qs)
-people_same [] [] = refl
-people_same [] (q ∷ qs) = refl
-people_same (p ∷ ps) [] = refl
-people_same (p ∷ ps) (q ∷ qs) = both_same _ _ _ _ (person_same p q) (people_same ps qs)
+pub persons_same : (ps qs : List Person) → pointwise eq_person.it ps qs ≡ same_persons (map person_view ps) (map person_view qs)
+persons_same [] [] = refl
+persons_same [] (q ∷ qs) = refl
+persons_same (p ∷ ps) [] = refl
+persons_same (p ∷ ps) (q ∷ qs) = both_same _ _ _ _ (person_same p q) (persons_same ps qs)

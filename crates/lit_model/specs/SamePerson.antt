@@ -17,5 +17,5 @@ abbrev pub same_person : PersonView → PersonView → Bool
 same_person a b = bytes_eq a.name b.name && (same_text a.given_name b.given_name && (same_text a.prefix b.prefix && (same_text a.suffix b.suffix && (same_text a.alias b.alias && beq a.comma_suffix b.comma_suffix))))
 
 -- whether two lists have the same length and show the same at each place
-abbrev pub same_people : List PersonView → List PersonView → Bool
-same_people = pointwise same_person
+abbrev pub same_persons : List PersonView → List PersonView → Bool
+same_persons = pointwise same_person

@@ -68,8 +68,8 @@ impl Entry {
     {
         let key = String::from_str(alloc, self.key.as_str())?;
         let title = copy_forms(&self.title, alloc)?;
-        let authors = copy_people(&self.authors, alloc)?;
-        let editors = copy_people(&self.editors, alloc)?;
+        let authors = copy_creators(&self.authors, alloc)?;
+        let editors = copy_creators(&self.editors, alloc)?;
         let url = copy_url(&self.url, alloc)?;
         let affiliated = copy_affiliated(&self.affiliated, alloc)?;
         let publisher = copy_publisher(&self.publisher, alloc)?;
@@ -124,7 +124,7 @@ impl Entry {
     }
 }
 
-fn copy_people(value: &Option<Vec<Person>>, alloc: Global) -> Result<Option<Vec<Person>>, Memory>
+fn copy_creators(value: &Option<Vec<Person>>, alloc: Global) -> Result<Option<Vec<Person>>, Memory>
     ensures { IfOk result (λ copy. option_map (λ v. map person_view v.items) copy
         ≡ option_map (λ v. map person_view v.items) value.now) }
 {

@@ -29,7 +29,7 @@ pub use maybe_typed::MaybeTyped;
 pub use numeric::{Numeric, NumericDelimiter, NumericError, NumericValue};
 pub use page::{PageRanges, PageRangesPart};
 pub use person::{Person, PersonRole, PersonsWithRoles};
-pub use same_person::are_same_people;
+pub use same_person::are_same_persons;
 pub use select::{Bind, Clause, Field};
 pub use source::{LanguageIdentifier, Publisher, QualifiedUrl, SerialNumber};
 pub use text::{ChunkKind, ChunkedString, FormatString, StringChunk};

@@ -2,7 +2,7 @@
 
 ghost use Rattle.std.specs.Prelude.{◌≡◌, ◌↔◌, map, IsTrue};
 ghost use Rattle.lit_model.specs.Person.{person_view};
-ghost use Rattle.lit_model.specs.SamePerson.{same_person, same_people};
+ghost use Rattle.lit_model.specs.SamePerson.{same_person, same_persons};
 
 use crate::person::Person;
 
@@ -19,9 +19,9 @@ impl Person {
 
 /// Whether both lists have the same length and the same person ([`Person::is_same_person`]) at each
 /// place.
-pub fn are_same_people(people: &[Person], others: &[Person]) -> bool
-    ensures texts { IsTrue result ↔ (map person_view people.now ≡ map person_view others.now) }
-    ensures test { result ≡ same_people (map person_view people.now) (map person_view others.now) }
+pub fn are_same_persons(persons: &[Person], others: &[Person]) -> bool
+    ensures texts { IsTrue result ↔ (map person_view persons.now ≡ map person_view others.now) }
+    ensures test { result ≡ same_persons (map person_view persons.now) (map person_view others.now) }
 {
-    *people == *others
+    *persons == *others
 }

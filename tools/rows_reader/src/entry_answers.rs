@@ -5,7 +5,7 @@ use crate::form::{Form, Forms};
 use crate::names::variables::{KINDS, add_kind};
 use crate::tree_words::{add_person, add_quoted, add_value, add_word};
 use csl::entry::{
-    legislation_kind, recording_kind, same_date, same_number, same_pages, same_people, same_text,
+    legislation_kind, recording_kind, same_date, same_number, same_pages, same_persons, same_text,
 };
 use csl::literature::{ChunkKind, ChunkedString, Date, LongShortForm, MaybeTyped};
 use csl::style::{Kind, Named, StandardVariable, Variable};
@@ -297,7 +297,7 @@ pub fn is_same(
             &left.resolve_standard_variable(alloc, LongShortForm::Long, variable)?,
             &right.resolve_standard_variable(alloc, LongShortForm::Long, variable)?,
         )),
-        Variable::Name(variable) => Ok(same_people(
+        Variable::Name(variable) => Ok(same_persons(
             &left.resolve_name_variable(alloc, variable)?,
             &right.resolve_name_variable(alloc, variable)?,
         )),

@@ -28,16 +28,16 @@ fn formatted(forms: &Forms<'_>, others: &'static str) -> Result<Formatted, Fault
 }
 
 /// The persons of each variable of names.
-fn people(forms: &Forms<'_>) -> Result<Vec<(Vec<Person>, NameVariable)>, Fault> {
-    let mut people = Vec::new(forms.alloc);
+fn persons_by_variable(forms: &Forms<'_>) -> Result<Vec<(Vec<Person>, NameVariable)>, Fault> {
+    let mut lists = Vec::new(forms.alloc);
     for form in &forms.items {
         if let Form::List(head, inside) = form {
             if let Some(variable) = NameVariable::from_name(*head) {
-                people.push((persons(inside)?, variable))?;
+                lists.push((persons(inside)?, variable))?;
             }
         }
     }
-    Ok(people)
+    Ok(lists)
 }
 
 /// The meta of an element, by the word of its list.
@@ -50,7 +50,7 @@ pub fn meta(head: &str, forms: &Forms<'_>) -> Result<Option<ElemMeta>, Fault> {
         "label" => Ok(Some(ElemMeta::Label)),
         "citation-number" => Ok(Some(ElemMeta::CitationNumber)),
         "citation-label" => Ok(Some(ElemMeta::CitationLabel)),
-        "names" => Ok(Some(ElemMeta::Names(people(forms)?))),
+        "names" => Ok(Some(ElemMeta::Names(persons_by_variable(forms)?))),
         "entry" => Ok(Some(ElemMeta::Entry(forms.first_number()?))),
         _ => Err(forms.fault("no such part of a tree", head)),
     }

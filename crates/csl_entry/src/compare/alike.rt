@@ -7,7 +7,7 @@ ghost use Rattle.csl_common.specs.declared.form.LongShortForm.{LongShortForm};
 ghost use Rattle.csl_elements.specs.NamedSet.{named_set};
 ghost use Rattle.csl_entry.specs.Alike.{Each, SameNamedAnswers};
 
-use crate::compare::same::{same_date, same_number, same_pages, same_people, same_text};
+use crate::compare::same::{same_date, same_number, same_pages, same_persons, same_text};
 use crate::taxonomy::EntryLike;
 use csl_elements::{
     DateVariable, Kind, NameVariable, Named, NumberVariable, PageVariable, StandardVariable,
@@ -62,7 +62,7 @@ fn is_date_alike<T: EntryLike, U: EntryLike>(
 }
 
 /// Whether both entries give the same answer to a name variable.
-fn are_people_alike<T: EntryLike, U: EntryLike>(
+fn are_persons_alike<T: EntryLike, U: EntryLike>(
     alloc: Global,
     a: &T,
     b: &U,
@@ -73,7 +73,7 @@ fn are_people_alike<T: EntryLike, U: EntryLike>(
 {
     let left = a.resolve_name_variable(alloc, v)?;
     let right = b.resolve_name_variable(alloc, v)?;
-    Ok(same_people(&left, &right))
+    Ok(same_persons(&left, &right))
 }
 
 /// Whether both entries give the same answer to a standard variable in one form.
@@ -179,7 +179,7 @@ fn are_names_alike<T: EntryLike, U: EntryLike>(
         ≡ (U.answers b.now).names v) set.now.keys)) }
 {
     for v in set {
-        if !are_people_alike(alloc, a, b, *v)? {
+        if !are_persons_alike(alloc, a, b, *v)? {
             return Ok(false);
         }
     }

@@ -23,26 +23,26 @@ use std::borrow::Cow;
 
 /// Whether two lists of persons have the same length and the persons at each place are equal: in
 /// every text, and in whether a comma comes before the suffix (CSL 1.0.2, Name Variables).
-pub fn same_people(people: &[Cow<'_, Person>], others: &[Cow<'_, Person>]) -> bool
+pub fn same_persons(persons: &[Cow<'_, Person>], others: &[Cow<'_, Person>]) -> bool
     ensures texts { IsTrue result
-        ↔ (map (cow_view person_view) people.now ≡ map (cow_view person_view) others.now) }
+        ↔ (map (cow_view person_view) persons.now ≡ map (cow_view person_view) others.now) }
     ensures test { result
-        ≡ spec.same_people (map (cow_view person_view) people.now)
+        ≡ spec.same_persons (map (cow_view person_view) persons.now)
         (map (cow_view person_view) others.now) }
 {
-    same_each(people, others)
+    same_each(persons, others)
 }
 
 /// Whether two lists of persons are equal, person by person.
-fn same_each(people: &[Cow<'_, Person>], others: &[Cow<'_, Person>]) -> bool
-    ensures { result ≡ spec.same_people (map (cow_view person_view) people.now)
+fn same_each(persons: &[Cow<'_, Person>], others: &[Cow<'_, Person>]) -> bool
+    ensures { result ≡ spec.same_persons (map (cow_view person_view) persons.now)
         (map (cow_view person_view) others.now) }
 {
-    if people.len() != others.len() {
+    if persons.len() != others.len() {
         return false;
     }
-    for place in 0..people.len() {
-        if !people[place]
+    for place in 0..persons.len() {
+        if !persons[place]
             .as_ref()
             .is_same_person(others[place].as_ref())
         {

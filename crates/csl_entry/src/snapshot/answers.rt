@@ -87,7 +87,7 @@ impl EntryLike for Snapshot {
         variable: NameVariable,
     ) -> Result<Vec<Cow<'_, Person>>, Memory> {
         match answer_at(&self.names, variable) {
-            Some(people) => name_answer(alloc, people),
+            Some(persons) => name_answer(alloc, persons),
             None => Ok(Vec::new(alloc)),
         }
     }

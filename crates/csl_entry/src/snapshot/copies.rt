@@ -88,23 +88,23 @@ fn copy_names(
     names: &[(NameVariable, Vec<Person>)],
 ) -> Result<Vec<(NameVariable, Vec<Person>)>, Memory>
     ensures { IfOk result (λ copies.
-        map (keyed (λ people. map person_view people.items)) copies.items
-        ≡ map (keyed (λ people. map person_view people.items)) names.now) }
+        map (keyed (λ persons. map person_view persons.items)) copies.items
+        ≡ map (keyed (λ persons. map person_view persons.items)) names.now) }
 {
     let mut copies = Vec::with_capacity(alloc, names.len())?;
-    for (variable, people) in names {
-        let copy = copy_people(alloc, people)?;
+    for (variable, persons) in names {
+        let copy = copy_persons(alloc, persons)?;
         copies.push((*variable, copy))?;
     }
     Ok(copies)
 }
 
-fn copy_people(alloc: Global, people: &[Person]) -> Result<Vec<Person>, Memory>
+fn copy_persons(alloc: Global, persons: &[Person]) -> Result<Vec<Person>, Memory>
     ensures { IfOk result (λ copies.
-        map person_view copies.items ≡ map person_view people.now) }
+        map person_view copies.items ≡ map person_view persons.now) }
 {
-    let mut copies = Vec::with_capacity(alloc, people.len())?;
-    for person in people {
+    let mut copies = Vec::with_capacity(alloc, persons.len())?;
+    for person in persons {
         let copy = person.clone(alloc)?;
         copies.push(copy)?;
     }

@@ -71,12 +71,12 @@ fn own_person(alloc: Global, person: Cow<'_, Person>) -> Result<Person, Memory>
 }
 
 /// The persons, owned.
-fn owned_persons(alloc: Global, people: Vec<Cow<'_, Person>>) -> Result<Vec<Person>, Memory>
+fn owned_persons(alloc: Global, persons: Vec<Cow<'_, Person>>) -> Result<Vec<Person>, Memory>
     ensures { IfOk result (λ own. map person_view own.items
-        ≡ map (cow_view person_view) people.entry.items) }
+        ≡ map (cow_view person_view) persons.entry.items) }
 {
-    let mut own = Vec::with_capacity(alloc, people.len())?;
-    for person in people {
+    let mut own = Vec::with_capacity(alloc, persons.len())?;
+    for person in persons {
         let person = own_person(alloc, person)?;
         own.push(person)?;
     }
@@ -84,14 +84,14 @@ fn owned_persons(alloc: Global, people: Vec<Cow<'_, Person>>) -> Result<Vec<Pers
 }
 
 /// The persons, or `None` if there are none.
-fn some_people(people: Vec<Person>) -> Option<Vec<Person>>
-    ensures { option_map (λ people. map person_view people.items) result
-        ≡ spec.some_people (map person_view people.items) }
+fn some_persons(persons: Vec<Person>) -> Option<Vec<Person>>
+    ensures { option_map (λ persons. map person_view persons.items) result
+        ≡ spec.some_persons (map person_view persons.items) }
 {
-    if people.is_empty() {
+    if persons.is_empty() {
         None
     } else {
-        Some(people)
+        Some(persons)
     }
 }
 
@@ -171,15 +171,15 @@ pub(super) fn names<T: EntryLike>(
     variables: &BTreeSet<NameVariable>,
 ) -> Result<Vec<(NameVariable, Vec<Person>)>, Memory>
     ensures { IfOk result (λ kept.
-        map (spec.keyed (λ people. map person_view people.items)) kept.items
-        ≡ spec.kept_answers (λ v. spec.some_people ((T.answers entry.now).names v))
+        map (spec.keyed (λ persons. map person_view persons.items)) kept.items
+        ≡ spec.kept_answers (λ v. spec.some_persons ((T.answers entry.now).names v))
         variables.now.keys) }
 {
     let mut kept = Vec::new(alloc);
     for variable in variables {
         let found = entry.resolve_name_variable(alloc, *variable)?;
         let own = owned_persons(alloc, found)?;
-        keep(&mut kept, *variable, some_people(own))?;
+        keep(&mut kept, *variable, some_persons(own))?;
     }
     Ok(kept)
 }

@@ -9,7 +9,7 @@ ghost use Rattle.csl_context.specs.Context.{Runs, GivesBy, render_input};
 ghost use Rattle.csl_names.specs.NamesLists as spec;
 
 use csl_context::{Context, RenderError};
-use csl_entry::{EntryLike, same_people};
+use csl_entry::{EntryLike, same_persons};
 use csl_style::{NameVariable, Term, TermForm};
 use lit_model::{Memory, Person};
 use std::alloc::Global;
@@ -69,7 +69,7 @@ fn merged_lists<'a>(
         lists.push((editors, NameVariable::Editor))?;
         return Ok(lists);
     }
-    if same_people(&editors, &translators) {
+    if same_persons(&editors, &translators) {
         lists.push((editors, NameVariable::EditorTranslator))?;
         return Ok(lists);
     }

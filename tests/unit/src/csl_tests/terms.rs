@@ -12,13 +12,13 @@ mod absent;
 mod locators;
 mod numbers;
 mod other;
-mod people;
+mod persons;
 
 use absent::ABSENT;
 use locators::LOCATORS;
 use numbers::NUMBERS;
 use other::OTHER;
-use people::PEOPLE;
+use persons::PERSONS;
 
 /// A term, its form, its singular and its plural.
 pub(crate) type Row = (Term, TermForm, &'static str, &'static str);
@@ -44,7 +44,7 @@ fn terms_that_name_no_variable(rt: HostRuntime) {
 
 #[test]
 fn what_persons_are_called(rt: HostRuntime) {
-    assert_terms(&rt, rt.alloc(), &PEOPLE);
+    assert_terms(&rt, rt.alloc(), &PERSONS);
 }
 
 #[test]

@@ -2,7 +2,7 @@
 
 use crate::lit_model_tests::samples::{assert_whether, person};
 use crate::shared::put;
-use lit_model::{Person, are_same_people};
+use lit_model::{Person, are_same_persons};
 use std::alloc::Global;
 use std::process::Abort;
 
@@ -71,12 +71,12 @@ fn each_text_of_a_person_counts(rt: HostRuntime) {
 }
 
 /// Persons with these names, which white space separates.
-fn people(rt: &impl Abort, alloc: Global, names: &str) -> Vec<Person> {
-    let mut people = Vec::new(alloc);
+fn persons(rt: &impl Abort, alloc: Global, names: &str) -> Vec<Person> {
+    let mut persons = Vec::new(alloc);
     for name in names.split_whitespace() {
-        put(rt, &mut people, person(rt, alloc, name, None));
+        put(rt, &mut persons, person(rt, alloc, name, None));
     }
-    people
+    persons
 }
 
 /// The names of two lists of persons, and whether the persons are the same.
@@ -90,9 +90,9 @@ static LISTS: [(&str, &str, bool); 6] = [
 ];
 
 fn assert_lists(rt: &impl Abort, alloc: Global, &(first, second, wanted): &(&str, &str, bool)) {
-    let first = people(rt, alloc, first);
-    let others = people(rt, alloc, second);
-    assert_whether(rt, are_same_people(&first, &others), wanted, second);
+    let first = persons(rt, alloc, first);
+    let others = persons(rt, alloc, second);
+    assert_whether(rt, are_same_persons(&first, &others), wanted, second);
 }
 
 #[test]

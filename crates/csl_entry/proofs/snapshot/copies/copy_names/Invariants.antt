@@ -4,4 +4,4 @@ use Rattle.csl_entry.specs.Snapshot.{keyed}
 use Rattle.csl_entry.proofs.snapshot.copies.copy_names.Given as goal
 
 abbrev pub invariant-loop-variable : goal.invariant-loop-variable
-invariant-loop-variable l = map (keyed (λ people. map person_view people.items)) l.copies.items ≡ map (keyed (λ people. map person_view people.items)) (take l.variable-index l.names)
+invariant-loop-variable l = map (keyed (λ persons. map person_view persons.items)) l.copies.items ≡ map (keyed (λ persons. map person_view persons.items)) (take l.variable-index l.names)

@@ -5,7 +5,7 @@ use csl::style::NameVariable as Role;
 use csl::style::Term::Name;
 use csl::style::TermForm::{Long, Short, Verb, VerbShort};
 
-pub(crate) static PEOPLE: [Row; 76] = [
+pub(crate) static PERSONS: [Row; 76] = [
     (Name(Role::Chair), Long, "chair", "chairs"),
     (Name(Role::Chair), Verb, "chaired by", "chaired by"),
     (Name(Role::Compiler), Long, "compiler", "compilers"),

@@ -1,5 +1,0 @@
-use Rattle.csl_entry.proofs.AlikeSets.{decides_at}
-use Rattle.csl_entry.proofs.compare.alike.are_people_alike.Goals as goal
-
-pub returns : goal.returns
-returns g c = decides_at _ _ _ _ _ (rw (c.deref.ensures.value, c.deref-2.ensures.value) at c.same_people.ensures.texts) c.in_ok-left.ensures c.in_ok-right.ensures
