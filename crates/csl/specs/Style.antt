@@ -28,7 +28,6 @@ pub use Rattle.csl_style.specs.Node
 pub use Rattle.csl_style.specs.Taxonomy
 pub use Rattle.csl_style.specs.Ordinals
 pub use Rattle.csl_style.specs.OverCalls
-pub use Rattle.csl_style.specs.RenderedSize
 pub use Rattle.csl_style.specs.Scopes
 pub use Rattle.csl_style.specs.Size
 pub use Rattle.csl_style.specs.Term

@@ -16,7 +16,6 @@ pub mod AllNodes
 pub mod Expanded
 pub mod Depth
 pub mod Size
-pub mod RenderedSize
 pub mod Scopes
 pub mod Named
 pub mod NamedWalk

@@ -14,7 +14,6 @@ mod missing;
 mod missing_term;
 mod named;
 mod places;
-mod rendered_size;
 mod scopes;
 mod size;
 pub mod style;

@@ -1,19 +1,21 @@
-//! The size of a layout with all macros expanded (CSL 1.0.2, Macro).
+//! The size of a layout with all macros expanded, and how much of it one rendering goes through (CSL
+//! 1.0.2, Macro; Choose; Localized Date Formats).
 
-ghost use Rattle.std.specs.Prelude.{◌≡◌, ◌+◌, ◌<◌, ◌≤◌, ◌⊎◌, length, option_map, IfSome, IfNone, IsTrue, IsFalse};
+ghost use Prim.Native.Nat.{min};
+ghost use Rattle.std.specs.Prelude.{◌≡◌, ◌+◌, ◌<◌, ◌≤◌, ◌⊎◌, length, option_map, IfSome, IfNone, IsTrue, IsFalse, if◌then◌else◌};
 ghost use Rattle.csl_elements.specs.Node.{expand, expand_nodes, expand_layout};
 ghost use Rattle.csl_elements.specs.View.{view_node, view_nodes, view_names, view_child, view_branch, view_choose, view_layout};
 ghost use Rattle.csl_style.specs.Expanded.{macro_env};
 ghost use Rattle.csl_style.specs.Depth.{node_depth, nodes_depth, child_depth, layout_depth};
-ghost use Rattle.csl_style.specs.Size.{list_weight, tests_weight, weight, weights, branch_weight, child_weight, layout_size};
+ghost use Rattle.csl_style.specs.Size.{counted, list_weight, localized_parts, tests_weight, weight, weights, child_weight, layout_size, rendered_size};
 
 use crate::style::Style;
 use csl_elements::{
-    Choose, ChooseBranch, Layout, LayoutRenderingElement, Names, NamesChild, TextTarget,
+    Choose, ChooseBranch, DateForm, Layout, LayoutRenderingElement, Names, NamesChild, TextTarget,
 };
 
 /// The room that is left after the items of a test.
-fn room_after_test<T>(items: &Option<Vec<T>>, room: u64) -> Option<u64>
+fn room_left_by_test<T>(items: &Option<Vec<T>>, room: u64) -> Option<u64>
     ensures some { IfSome result (λ left. left
         + list_weight (option_map (λ v. v.items) items.now) ≡ room) }
     ensures none { IfNone result (room < list_weight (option_map (λ v. v.items) items.now)) }
@@ -25,32 +27,62 @@ fn room_after_test<T>(items: &Option<Vec<T>>, room: u64) -> Option<u64>
 }
 
 /// The room that is left after the tests of a branch.
-pub(crate) fn room_after_tests(branch: &ChooseBranch, room: u64) -> Option<u64>
+fn room_left_by_tests(branch: &ChooseBranch, room: u64) -> Option<u64>
     ensures some { IfSome result (λ left. left + tests_weight (view_branch branch.now).tests
         ≡ room) }
     ensures none { IfNone result (room < tests_weight (view_branch branch.now).tests) }
 {
-    let left = room_after_test(&branch.is_numeric, room)?;
-    let left = room_after_test(&branch.is_uncertain_date, left)?;
-    let left = room_after_test(&branch.locator, left)?;
-    let left = room_after_test(&branch.position, left)?;
-    let left = room_after_test(&branch.type_, left)?;
-    room_after_test(&branch.variable, left)
+    let left = room_left_by_test(&branch.is_numeric, room)?;
+    let left = room_left_by_test(&branch.is_uncertain_date, left)?;
+    let left = room_left_by_test(&branch.locator, left)?;
+    let left = room_left_by_test(&branch.position, left)?;
+    let left = room_left_by_test(&branch.type_, left)?;
+    room_left_by_test(&branch.variable, left)
+}
+
+/// The smaller of two numbers.
+fn smaller(a: u64, b: u64) -> u64
+    ensures { result ≡ min a b }
+{
+    if a < b { a } else { b }
+}
+
+/// The parts of the style's date of a form, if they count: if `once`.
+fn localized_parts(style: &Style, form: Option<DateForm>, once: bool) -> u64
+    ensures { result ≡ localized_parts (counted once style.now.locales) form }
+{
+    if !once {
+        return 0;
+    }
+    match form {
+        Some(form) => match style.localized_date(form) {
+            Some(localized) => localized.date_part.len() as u64,
+            None => 0,
+        },
+        None => 0,
+    }
+}
+
+/// The room for what comes after a branch: if `once`, that before the nodes of the branch.
+fn room_after_branch(before: u64, after: u64, once: bool) -> u64
+    ensures { result ≡ (if once then before else after) }
+{
+    if once { before } else { after }
 }
 
 /// The room that is left after an element, or `None` if the element is larger than the room or
-/// deeper than `most`.
+/// deeper than `most`. If `ONCE`, only what one rendering goes through counts.
 #[cycle(size)]
-fn room_after(
+fn room_left_by<const ONCE: bool>(
     style: &Style,
     element: &LayoutRenderingElement,
     room: u64,
     most: usize,
 ) -> Option<u64>
-    ensures some { IfSome result (λ left. (left + weight
+    ensures some { IfSome result (λ left. (left + weight ONCE (counted ONCE style.now.locales)
         (expand (macro_env style.now) (view_node element.now)) ≡ room)
         × (node_depth (expand (macro_env style.now) (view_node element.now)) ≤ most)) }
-    ensures none { IfNone result ((room < weight
+    ensures none { IfNone result ((room < weight ONCE (counted ONCE style.now.locales)
         (expand (macro_env style.now) (view_node element.now)))
         ⊎ (most < node_depth (expand (macro_env style.now) (view_node element.now)))) }
 {
@@ -58,7 +90,12 @@ fn room_after(
     match element {
         LayoutRenderingElement::Text(text) => match &text.target {
             TextTarget::Macro { name } => match style.get_macro(name.as_str()) {
-                Some(found) => room_after_all(style, &found.children, room.checked_sub(1)?, inside),
+                Some(found) => room_left_by_all::<ONCE>(
+                    style,
+                    &found.children,
+                    room.checked_sub(1)?,
+                    inside,
+                ),
                 None => Some(room),
             },
             TextTarget::Variable { .. } | TextTarget::Term { .. } | TextTarget::Value { .. } => {
@@ -66,44 +103,55 @@ fn room_after(
             }
         },
         LayoutRenderingElement::Number(_) | LayoutRenderingElement::Label(_) => Some(room),
-        LayoutRenderingElement::Date(date) => room.checked_sub(date.date_part.len() as u64),
-        LayoutRenderingElement::Names(names) => room_after_names(style, names, room, most),
-        LayoutRenderingElement::Choose(choose) => room_after_choose(style, choose, room, most),
+        LayoutRenderingElement::Date(date) => room
+            .checked_sub(date.date_part.len() as u64)?
+            .checked_sub(localized_parts(style, date.form, ONCE)),
+        LayoutRenderingElement::Names(names) => room_left_by_names::<ONCE>(
+            style, names, room, most,
+        ),
+        LayoutRenderingElement::Choose(choose) => room_left_by_choose::<ONCE>(
+            style, choose, room, most,
+        ),
         LayoutRenderingElement::Group(group) => {
-            room_after_all(style, &group.children, room.checked_sub(1)?, inside)
+            room_left_by_all::<ONCE>(style, &group.children, room.checked_sub(1)?, inside)
         }
     }
 }
 
 /// The room that is left after a list of elements. Each counts one more than its own size.
 #[cycle(size)]
-fn room_after_all(
+fn room_left_by_all<const ONCE: bool>(
     style: &Style,
     elements: &[LayoutRenderingElement],
     room: u64,
     most: usize,
 ) -> Option<u64>
     ensures some { IfSome result (λ left. (left
-        + weights (expand_nodes (macro_env style.now) (view_nodes elements.now)) ≡ room)
+        + weights ONCE (counted ONCE style.now.locales) (expand_nodes (macro_env style.now) (view_nodes elements.now)) ≡ room)
         × (nodes_depth (expand_nodes (macro_env style.now) (view_nodes elements.now)) ≤ most)) }
-    ensures none { IfNone result ((room < weights
+    ensures none { IfNone result ((room < weights ONCE (counted ONCE style.now.locales)
         (expand_nodes (macro_env style.now) (view_nodes elements.now)))
         ⊎ (most < nodes_depth (expand_nodes (macro_env style.now) (view_nodes elements.now)))) }
 {
     let mut left = room;
     for element in elements {
-        left = room_after(style, element, left.checked_sub(1)?, most)?;
+        left = room_left_by::<ONCE>(style, element, left.checked_sub(1)?, most)?;
     }
     Some(left)
 }
 
 /// The room that is left after a names node, which counts one, and one more for each variable.
 #[cycle(size)]
-fn room_after_names(style: &Style, names: &Names, room: u64, most: usize) -> Option<u64>
+fn room_left_by_names<const ONCE: bool>(
+    style: &Style,
+    names: &Names,
+    room: u64,
+    most: usize,
+) -> Option<u64>
     ensures some { IfSome result (λ left. (left
-        + weight (expand (macro_env style.now) (view_names names.now)) ≡ room)
+        + weight ONCE (counted ONCE style.now.locales) (expand (macro_env style.now) (view_names names.now)) ≡ room)
         × (node_depth (expand (macro_env style.now) (view_names names.now)) ≤ most)) }
-    ensures none { IfNone result ((room < weight (expand (macro_env style.now) (view_names names.now)))
+    ensures none { IfNone result ((room < weight ONCE (counted ONCE style.now.locales) (expand (macro_env style.now) (view_names names.now)))
         ⊎ (most < node_depth (expand (macro_env style.now) (view_names names.now)))) }
 {
     let inside = most.checked_sub(1)?;
@@ -111,7 +159,7 @@ fn room_after_names(style: &Style, names: &Names, room: u64, most: usize) -> Opt
         .checked_sub(1)?
         .checked_sub(names.variable.len() as u64)?;
     for child in &names.children {
-        left = room_after_child(style, child, left, inside)?;
+        left = room_left_by_child::<ONCE>(style, child, left, inside)?;
     }
     Some(left)
 }
@@ -119,66 +167,65 @@ fn room_after_names(style: &Style, names: &Names, room: u64, most: usize) -> Opt
 /// The room that is left after a child of a names node. Each counts one, and a name its parts and a
 /// substitute the elements in it too.
 #[cycle(size)]
-fn room_after_child(style: &Style, child: &NamesChild, room: u64, most: usize) -> Option<u64>
-    ensures some { IfSome result (λ left. (left + child_weight (macro_env style.now)
+fn room_left_by_child<const ONCE: bool>(
+    style: &Style,
+    child: &NamesChild,
+    room: u64,
+    most: usize,
+) -> Option<u64>
+    ensures some { IfSome result (λ left. (left + child_weight ONCE (counted ONCE style.now.locales) (macro_env style.now)
         (view_child child.now) ≡ room)
         × (child_depth (macro_env style.now) (view_child child.now) ≤ most)) }
-    ensures none { IfNone result ((room < child_weight (macro_env style.now) (view_child child.now))
+    ensures none { IfNone result ((room < child_weight ONCE (counted ONCE style.now.locales) (macro_env style.now) (view_child child.now))
         ⊎ (most < child_depth (macro_env style.now) (view_child child.now))) }
 {
     match child {
         NamesChild::Name(name) => room.checked_sub(1)?.checked_sub(name.parts.len() as u64),
         NamesChild::EtAl(_) | NamesChild::Label(_) => room.checked_sub(1),
         NamesChild::Substitute(substitute) => {
-            room_after_all(style, &substitute.children, room.checked_sub(1)?, most)
+            room_left_by_all::<ONCE>(style, &substitute.children, room.checked_sub(1)?, most)
         }
     }
 }
 
-/// The room that is left after a branch. It counts one, and so does each item of its tests.
-#[cycle(size)]
-fn room_after_branch(style: &Style, branch: &ChooseBranch, room: u64, most: usize) -> Option<u64>
-    ensures some { IfSome result (λ left. (left
-        + branch_weight (macro_env style.now) (view_branch branch.now) ≡ room)
-        × (nodes_depth (expand_nodes (macro_env style.now) (view_branch branch.now).nodes) ≤ most)) }
-    ensures none { IfNone result ((room < branch_weight (macro_env style.now)
-        (view_branch branch.now))
-        ⊎ (most < nodes_depth (expand_nodes (macro_env style.now) (view_branch branch.now).nodes))) }
-{
-    let left = room_after_tests(branch, room.checked_sub(1)?)?;
-    room_after_all(style, &branch.children, left, most)
-}
-
 /// The room that is left after a choose, which counts one, and one more for each branch, `cs:else`
-/// included.
+/// included. A rendering goes through the tests of the branches in order, and through one branch.
 #[cycle(size)]
-fn room_after_choose(style: &Style, choose: &Choose, room: u64, most: usize) -> Option<u64>
+fn room_left_by_choose<const ONCE: bool>(
+    style: &Style,
+    choose: &Choose,
+    room: u64,
+    most: usize,
+) -> Option<u64>
     ensures some { IfSome result (λ left. (left
-        + weight (expand (macro_env style.now) (view_choose choose.now)) ≡ room)
+        + weight ONCE (counted ONCE style.now.locales) (expand (macro_env style.now) (view_choose choose.now)) ≡ room)
         × (node_depth (expand (macro_env style.now) (view_choose choose.now)) ≤ most)) }
-    ensures none { IfNone result ((room < weight
+    ensures none { IfNone result ((room < weight ONCE (counted ONCE style.now.locales)
         (expand (macro_env style.now) (view_choose choose.now)))
         ⊎ (most < node_depth (expand (macro_env style.now) (view_choose choose.now)))) }
 {
     let inside = most.checked_sub(1)?;
-    let mut left = room_after_branch(style, &choose.if_, room.checked_sub(1)?, inside)?;
+    let left = room_left_by_tests(&choose.if_, room.checked_sub(1)?.checked_sub(1)?)?;
+    let mut least = room_left_by_all::<ONCE>(style, &choose.if_.children, left, inside)?;
+    let mut next = room_after_branch(left, least, ONCE);
     for branch in &choose.else_if {
-        left = room_after_branch(style, branch, left, inside)?;
+        let left = room_left_by_tests(branch, next.checked_sub(1)?)?;
+        let after = room_left_by_all::<ONCE>(style, &branch.children, left, inside)?;
+        next = room_after_branch(left, after, ONCE);
+        least = smaller(least, after);
     }
     match &choose.otherwise {
-        Some(otherwise) => room_after_all(style, otherwise, left.checked_sub(1)?, inside),
-        None => Some(left),
+        Some(otherwise) => {
+            let after = room_left_by_all::<ONCE>(style, otherwise, next.checked_sub(1)?, inside)?;
+            Some(smaller(least, after))
+        }
+        None => Some(smaller(least, next)),
     }
 }
 
 /// The room that is left after a layout, which counts one, or `None` if the layout is larger than the
 /// room or deeper than `most`.
-pub(crate) fn room_after_layout(
-    style: &Style,
-    layout: &Layout,
-    room: u64,
-    most: usize,
-) -> Option<u64>
+fn room_left_by_layout(style: &Style, layout: &Layout, room: u64, most: usize) -> Option<u64>
     ensures some { IfSome result (λ left. (left
         + layout_size (expand_layout (macro_env style.now) (view_layout layout.now)) ≡ room)
         × (layout_depth (expand_layout (macro_env style.now) (view_layout layout.now)) ≤ most)) }
@@ -188,7 +235,7 @@ pub(crate) fn room_after_layout(
 {
     let left = room.checked_sub(1)?;
     let inside = most.checked_sub(1)?;
-    room_after_all(style, &layout.elements, left, inside)
+    room_left_by_all::<false>(style, &layout.elements, left, inside)
 }
 
 impl Style {
@@ -212,7 +259,7 @@ impl Style {
         ensures none { IfNone result (most
             < layout_size (expand_layout (macro_env self.now) (view_layout layout.now))) }
     {
-        let left = room_after_layout(self, layout, most, usize::MAX)?;
+        let left = room_left_by_layout(self, layout, most, usize::MAX)?;
         Some(most - left)
     }
 
@@ -230,6 +277,38 @@ impl Style {
             → (size < layout_size (expand_layout (macro_env self.now) (view_layout layout.now)))
             ⊎ (depth < layout_depth (expand_layout (macro_env self.now) (view_layout layout.now))) }
     {
-        room_after_layout(self, layout, size, depth).is_some()
+        room_left_by_layout(self, layout, size, depth).is_some()
+    }
+
+    /// Whether a layout with all macros expanded has at most the size `all` and the depth `depth`, as
+    /// in [`Style::expanded_within`], and one rendering goes through at most `size` of it.
+    ///
+    /// A rendering takes one branch of a choose, so of its branches only the largest way through
+    /// counts: the tests up to a branch, and the nodes of that branch. A localized date counts the
+    /// parts of the style's date of its form too.
+    ///
+    /// Check this before you render with a style from a stranger. It does not count locales, texts and
+    /// what an entry holds: limit the style's file and the entry too. The function allocates nothing.
+    /// Its number of steps grows with the smaller of the size of the layout and `all`, times the
+    /// locales and dates that the lookup of a localized date goes through, and its stack with the
+    /// smaller of the depth and its limit. Forty macros that each call the next in two branches have a
+    /// small `size`, but `all` has to be above 2^40.
+    pub fn rendered_within(&self, layout: &Layout, size: u64, all: u64, depth: usize) -> bool
+        ensures within { IsTrue result → (rendered_size self.now.locales
+            (expand_layout (macro_env self.now) (view_layout layout.now)) ≤ size)
+            × (layout_size (expand_layout (macro_env self.now) (view_layout layout.now)) ≤ all)
+            × (layout_depth (expand_layout (macro_env self.now) (view_layout layout.now)) ≤ depth) }
+        ensures above { IsFalse result → (size < rendered_size self.now.locales
+            (expand_layout (macro_env self.now) (view_layout layout.now)))
+            ⊎ ((all < layout_size (expand_layout (macro_env self.now) (view_layout layout.now)))
+            ⊎ (depth < layout_depth (expand_layout (macro_env self.now) (view_layout layout.now)))) }
+    {
+        if room_left_by_layout(self, layout, all, depth).is_none() {
+            return false;
+        }
+        match size.checked_sub(1) {
+            Some(left) => room_left_by_all::<true>(self, &layout.elements, left, depth).is_some(),
+            None => false,
+        }
     }
 }
