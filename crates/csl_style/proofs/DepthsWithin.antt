@@ -1,23 +1,18 @@
--- A layout is at most as deep as it is large.
+-- Nodes are at most as deep as they are large.
 use Rattle.std.proofs.Common.{◌≤◌, suc, false, [], arith}
-use Rattle.csl_elements.specs.Node.{ExpandedNode, expanded_text, expanded_macro, unknown_macro, expanded_number, expanded_label, expanded_date, expanded_names, shorthand, expanded_choose, expanded_group, ExpandedNodes, no_expanded_nodes, expanded_node, ExpandedBranches, no_expanded_branches, expanded_otherwise, expanded_branch, ExpandedSubstitutes, no_expanded_substitutes, expanded_substitute, ExpandedLayout}
-use Rattle.csl_style.specs.Depth.{node_depth, nodes_depth, branches_depth, substitutes_depth, layout_depth}
-use Rattle.csl_style.specs.Size.{weight, weights, branches_weight, substitutes_weight, layout_size}
+use Rattle.csl_elements.specs.Node.{ExpandedNode, expanded_macro, expanded_names, expanded_choose, expanded_group, ExpandedNodes, no_expanded_nodes, expanded_node, ExpandedBranches, no_expanded_branches, expanded_otherwise, expanded_branch, ExpandedSubstitutes, no_expanded_substitutes, expanded_substitute}
+use Rattle.csl_style.specs.Depth.{node_depth, nodes_depth, branches_depth, substitutes_depth}
+use Rattle.csl_style.specs.Size.{weight, weights, branches_weight, substitutes_weight}
 
 mutual
   node_within : (f : ExpandedNode) → node_depth f ≤ suc (weight false [] f)
-  node_within (expanded_text t d) = omega arith
   node_within (expanded_macro fs d) = let inside = nodes_within fs in omega arith
-  node_within unknown_macro = omega arith
-  node_within (expanded_number n) = omega arith
-  node_within (expanded_label v l) = omega arith
-  node_within (expanded_date d) = omega arith
   node_within (expanded_names n is) = let inside = substitutes_within is in omega arith
-  node_within (shorthand written n) = omega arith
   node_within (expanded_choose cs) = let inside = branches_within cs in omega arith
   node_within (expanded_group delimiter d fs) = let inside = nodes_within fs in omega arith
+  node_within other = omega arith
 
-  nodes_within : (fs : ExpandedNodes) → nodes_depth fs ≤ weights false [] fs
+  pub nodes_within : (fs : ExpandedNodes) → nodes_depth fs ≤ weights false [] fs
   nodes_within no_expanded_nodes = omega arith
   nodes_within (expanded_node f fs) = let first = node_within f in let rest = nodes_within fs in omega arith
 
@@ -29,6 +24,3 @@ mutual
   substitutes_within : (is : ExpandedSubstitutes) → substitutes_depth is ≤ substitutes_weight false [] is
   substitutes_within no_expanded_substitutes = omega arith
   substitutes_within (expanded_substitute fs is) = let inside = nodes_within fs in let rest = substitutes_within is in omega arith
-
-pub depth_within : (l : ExpandedLayout) → layout_depth l ≤ layout_size l
-depth_within l = let inside = nodes_within l.elements in omega arith

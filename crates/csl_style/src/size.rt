@@ -127,7 +127,8 @@ fn room_left_by_all<const ONCE: bool>(
     most: usize,
 ) -> Option<u64>
     ensures some { IfSome result (λ left. (left
-        + weights ONCE (counted ONCE style.now.locales) (expand_nodes (macro_env style.now) (view_nodes elements.now)) ≡ room)
+        + weights ONCE (counted ONCE style.now.locales)
+        (expand_nodes (macro_env style.now) (view_nodes elements.now)) ≡ room)
         × (nodes_depth (expand_nodes (macro_env style.now) (view_nodes elements.now)) ≤ most)) }
     ensures none { IfNone result ((room < weights ONCE (counted ONCE style.now.locales)
         (expand_nodes (macro_env style.now) (view_nodes elements.now)))
@@ -149,9 +150,11 @@ fn room_left_by_names<const ONCE: bool>(
     most: usize,
 ) -> Option<u64>
     ensures some { IfSome result (λ left. (left
-        + weight ONCE (counted ONCE style.now.locales) (expand (macro_env style.now) (view_names names.now)) ≡ room)
+        + weight ONCE (counted ONCE style.now.locales)
+        (expand (macro_env style.now) (view_names names.now)) ≡ room)
         × (node_depth (expand (macro_env style.now) (view_names names.now)) ≤ most)) }
-    ensures none { IfNone result ((room < weight ONCE (counted ONCE style.now.locales) (expand (macro_env style.now) (view_names names.now)))
+    ensures none { IfNone result ((room < weight ONCE (counted ONCE style.now.locales)
+        (expand (macro_env style.now) (view_names names.now)))
         ⊎ (most < node_depth (expand (macro_env style.now) (view_names names.now)))) }
 {
     let inside = most.checked_sub(1)?;
@@ -173,10 +176,13 @@ fn room_left_by_child<const ONCE: bool>(
     room: u64,
     most: usize,
 ) -> Option<u64>
-    ensures some { IfSome result (λ left. (left + child_weight ONCE (counted ONCE style.now.locales) (macro_env style.now)
+    ensures some { IfSome result (λ left. (left
+        + child_weight ONCE (counted ONCE style.now.locales) (macro_env style.now)
         (view_child child.now) ≡ room)
         × (child_depth (macro_env style.now) (view_child child.now) ≤ most)) }
-    ensures none { IfNone result ((room < child_weight ONCE (counted ONCE style.now.locales) (macro_env style.now) (view_child child.now))
+    ensures none { IfNone result ((room
+        < child_weight ONCE (counted ONCE style.now.locales) (macro_env style.now)
+        (view_child child.now))
         ⊎ (most < child_depth (macro_env style.now) (view_child child.now))) }
 {
     match child {
@@ -198,7 +204,8 @@ fn room_left_by_choose<const ONCE: bool>(
     most: usize,
 ) -> Option<u64>
     ensures some { IfSome result (λ left. (left
-        + weight ONCE (counted ONCE style.now.locales) (expand (macro_env style.now) (view_choose choose.now)) ≡ room)
+        + weight ONCE (counted ONCE style.now.locales)
+        (expand (macro_env style.now) (view_choose choose.now)) ≡ room)
         × (node_depth (expand (macro_env style.now) (view_choose choose.now)) ≤ most)) }
     ensures none { IfNone result ((room < weight ONCE (counted ONCE style.now.locales)
         (expand (macro_env style.now) (view_choose choose.now)))
@@ -252,6 +259,7 @@ impl Style {
     /// next twice have a size above 2^40. The function allocates nothing. Its number of steps grows
     /// with the smaller of the size and `most`, and so does its stack. [`Style::expanded_within`]
     /// limits the stack too.
+    #[tactic(auto, using(crate::proofs::DepthsWithin::nodes_within))]
     pub fn expanded_size(&self, layout: &Layout, most: u64) -> Option<u64>
         ensures some { IfSome result (λ size. (size
             ≡ layout_size (expand_layout (macro_env self.now) (view_layout layout.now))) ×
