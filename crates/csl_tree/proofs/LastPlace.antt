@@ -1,11 +1,13 @@
 -- The end of a tree, and its last text.
-use Rattle.std.proofs.Common.{◌≡◌, ℕ, ◌-◌, ◌<◌, suc, zero, true, false, List, [], ◌∷◌, length, map, get_or, refl, sym, ap, ◌∙◌, arith, slice_index_or, Option, Some, None, is_some, option_map, vec_len}
+use Rattle.std.proofs.Common.{◌≡◌, ℕ, ◌-◌, ◌<◌, suc, true, List, [], ◌∷◌, length, map, refl, sym, ap, ◌∙◌, arith, slice_index_or, Option, Some, None, is_some, option_map}
 use Rattle.std.specs.Prelude.{unwrap_or}
 use Rattle.std.specs.declared.vec.Vec.{Vec}
 use Rattle.std.specs.declared.alloc.Global.{Global}
 use Rattle.std.specs.Vec.{with_item}
 use Rattle.csl_tree.specs.Search.{last_text, last_text_of, last_of}
-use Rattle.csl_tree.specs.Places.{children_of, layer_children, layer_text, text_of_child, no_child, child_at, get_at, last, ends_in_elem, child_path, elem_path, children_path, before_path, last_step, last_path, last_path_of_child, last_items, put_last_items, put_last_text}
+use Rattle.csl_tree.specs.Places.{children_of, layer_children, layer_text, text_of_child, no_child, child_at, get_at, first_of, last, child_path, elem_path, children_path, before_path, last_step, last_path, last_path_of_child, put_last_text}
+use Rattle.csl_tree.specs.Walks.{goes_on, index_towards, items_towards, put_items_towards}
+use Rattle.csl_tree.specs.declared.places.Target.TheVariants.{End}
 use Rattle.csl_tree.specs.declared.formatting.Formatted.{Formatted}
 use Rattle.csl_tree.specs.declared.elem.ElemChild.{ElemChild}
 use Rattle.csl_tree.specs.declared.elem.ElemChild.TheOpen.{ElemChild-F, Text, Elem, Markup, Link, Transparent}
@@ -15,16 +17,7 @@ use Rattle.csl_tree.specs.declared.elem.ElemChild.TheVariants as variants
 use Rattle.csl_tree.specs.declared.elem.Elem as elem
 use Rattle.csl_tree.specs.declared.elem.ElemChildren.{ElemChildren}
 use Rattle.csl_tree.proofs.Searches.{layer_last, last_child_out, last_out}
-use Rattle.csl_tree.proofs.Walks as walks
-
-get_or_map : {A B : Type 0} (f : A → B) (xs : List A) (i : ℕ) (d : A) (e : B) → i < length xs → get_or (map f xs) i e ≡ f (get_or xs i d)
-get_or_map f [] i d e h = absurd (omega arith)
-get_or_map f (x ∷ xs) zero d e h = refl
-get_or_map f (x ∷ xs) (suc i) d e h = get_or_map f xs i d e (omega arith)
-
-length_map : {A B : Type 0} (f : A → B) (xs : List A) → length (map f xs) ≡ length xs
-length_map f [] = refl
-length_map f (x ∷ xs) = ap suc (length_map f xs)
+use Rattle.csl_tree.proofs.Indices.{at_index, get_or_map, length_map}
 
 layer_path : (x : ElemChild-F ElemChild elem.Elem ElemChildren) → child_path (map-ElemChild ElemChild elem.Elem ElemChildren (Option (List ℕ)) (List ℕ) (List ℕ) last_path_of_child (fold-Elem (Option (List ℕ)) (List ℕ) (List ℕ) child_path elem_path children_path) last_path x) ≡ option_map last_path (layer_children x)
 layer_path (Text f) = refl
@@ -48,41 +41,35 @@ pathed (x ∷ xs) =
 path_out : (c : ElemChildren) → last_path c ≡ before_path (last c) (option_map last_path (children_of (child_at c (last c))))
 path_out c = fold_out-ElemChildren (Option (List ℕ)) (List ℕ) (List ℕ) child_path elem_path children_path c ∙ pathed c.0.items
 
-none_is : {A : Type 0} (o : Option A) → is_some o ≡ false → o ≡ None
-none_is None h = refl
-none_is (Some x) h = cc
+-- the walk goes on in the last child, if that is an element
+next_before : (i : ℕ) (o : Option ElemChildren) → first_of (before_path i (option_map last_path o)) ≡ option_map (λ d. i) o
+next_before i None = refl
+next_before i (Some d) = refl
 
-pub stops : (c : ElemChildren) → ends_in_elem c ≡ false → last_path c ≡ []
-stops c h = path_out c ∙ ap (λ o. before_path (last c) (option_map last_path o)) (none_is _ h)
+next_is : (c : ElemChildren) → first_of (last_path c) ≡ option_map (λ d. last c) (children_of (child_at c (last c)))
+next_is c = ap first_of (path_out c) ∙ next_before (last c) (children_of (child_at c (last c)))
 
-pub further : (c d : ElemChildren) (x : ElemChild) → x ≡ child_at c (last c) → Some d ≡ children_of x → ends_in_elem c ≡ true → last_path c ≡ last c ∷ last_path d
-further c d x is has on = path_out c ∙ ap (λ k. before_path (last c) (option_map last_path (children_of k))) (sym is) ∙ ap (λ o. before_path (last c) (option_map last_path o)) (sym has)
+index_of : (i : ℕ) (o : Option ElemChildren) → is_some (option_map (λ d. i) o) ≡ true → unwrap_or (option_map (λ d. i) o) 0 ≡ i
+index_of i None h = cc
+index_of i (Some d) h = refl
 
-abbrev pub items_with : ElemChildren → ElemChild → ElemChildren → Vec ElemChild Global → ElemChildren
-items_with = walks.items_with last_path ends_in_elem last further stops
+some_of : (i : ℕ) (o : Option ElemChildren) → is_some (option_map (λ d. i) o) ≡ is_some o
+some_of i None = refl
+some_of i (Some d) = refl
 
-pub reached_here : (c : ElemChildren) → ends_in_elem c ≡ false → c ≡ get_at (last_path c) c
-reached_here = walks.reached_here last_path ends_in_elem last further stops
+index_is : (c : ElemChildren) → goes_on End c ≡ true → index_towards End c ≡ last c
+index_is c on = ap (λ o. unwrap_or o 0) (next_is c) ∙ index_of (last c) (children_of (child_at c (last c))) (sym (ap is_some (next_is c)) ∙ on)
 
-pub put_items_here : (c : ElemChildren) → ends_in_elem c ≡ false → walks.made ≡ put_last_items c
-put_items_here = walks.put_items_here last_path ends_in_elem last further stops
+pub has_children : (c : ElemChildren) (x : ElemChild) → x ≡ child_at c (index_towards End c) → goes_on End c ≡ true → is_some (children_of x) ≡ true
+has_children c x is on = ap (λ k. is_some (children_of k)) (is ∙ ap (child_at c) (index_is c on)) ∙ sym (some_of (last c) (children_of (child_at c (last c)))) ∙ sym (ap is_some (next_is c)) ∙ on
 
-module _ (c d : ElemChildren) (x : ElemChild) (is : x ≡ child_at c (last c)) (has : Some d ≡ children_of x) (on : ends_in_elem c ≡ true) where
-  pub reached_down : get_at (last_path d) d ≡ get_at (last_path c) c
-  reached_down = walks.reached_down last_path ends_in_elem last further stops c d x is has on
-
-  pub put_items_further : items_with c x d ≡ put_last_items c
-  put_items_further = walks.put_items_further last_path ends_in_elem last further stops c d x is has on
-
-  pub shorter : length (last_path d) < length (last_path c)
-  shorter = walks.shorter last_path ends_in_elem last further stops c d x is has on
-
-some_child : (xs : List ElemChild) → is_some (children_of (slice_index_or xs (length xs - 1) no_child)) ≡ true → 0 < length xs
-some_child [] h = let n = no_children in cc
-some_child (x ∷ xs) h = omega arith
-
-pub has_child : (c : ElemChildren) → ends_in_elem c ≡ true → 0 < vec_len c.0
-has_child c h = let l = some_child c.0.items h in omega (arith, c.0.ok.0)
+pub further : (c d : ElemChildren) (x : ElemChild) → x ≡ child_at c (index_towards End c) → Some d ≡ children_of x → goes_on End c ≡ true → last_path c ≡ index_towards End c ∷ last_path d
+further c d x is has on =
+    let at : x ≡ child_at c (last c) = is ∙ ap (child_at c) (index_is c on) in
+    path_out c
+    ∙ ap (λ k. before_path (last c) (option_map last_path (children_of k))) (sym at)
+    ∙ ap (λ o. before_path (last c) (option_map last_path o)) (sym has)
+    ∙ ap (λ i. i ∷ last_path d) (sym (index_is c on))
 
 -- the last text of children is that of the last child
 last_at : (ks : List ElemChild) → last_of (map last_text_of ks) ≡ layer_last (out-ElemChild (slice_index_or ks (length ks - 1) no_child))
@@ -134,18 +121,18 @@ mutual_text (i ∷ p) c (Transparent n f) e h = let g = ap length h in absurd (o
 pub text_at_end : (c : ElemChildren) → text_of_child (final c) ≡ last_text c
 text_at_end c = mutual_text (last_path c) c (out-ElemChild (child_at c (last c))) refl (sym (path_out c)) ∙ sym (last_here c)
 
-module _ (s : ElemChildren) (v : Vec ElemChild Global) (is : v ≡ last_items s) (n : ℕ) (end : n ≡ length v.items - 1) where
+module _ (s : ElemChildren) (v : Vec ElemChild Global) (is : v ≡ items_towards End s) (n : ℕ) (end : n ≡ length v.items - 1) where
   end_is : n ≡ last (get_at (last_path s) s)
   end_is = end ∙ ap (λ u. length u.items - 1) is
 
   abbrev text_in : Formatted → Vec ElemChild Global → ℕ → ElemChildren
-  text_in t u i = put_last_items s (with_item u i (variants.Text t))
+  text_in t u i = put_items_towards End s (with_item u i (variants.Text t))
 
-  pub put_text : (t : Formatted) → put_last_items s (with_item v n (variants.Text t)) ≡ put_last_text s t
-  put_text t = ap (λ u. text_in t u n) is ∙ ap (text_in t (last_items s)) end_is
+  pub put_text : (t : Formatted) → put_items_towards End s (with_item v n (variants.Text t)) ≡ put_last_text s t
+  put_text t = ap (λ u. text_in t u n) is ∙ ap (text_in t (items_towards End s)) end_is
 
   pub final_is : (k : ElemChild) → n < length v.items → k ≡ slice_index_or v.items n k → k ≡ final s
-  final_is k h e = walks.at_index v.items n n no_child refl h e ∙ ap (λ u. slice_index_or u.items n no_child) is ∙ ap (child_at (get_at (last_path s) s)) end_is
+  final_is k h e = at_index v.items n n no_child refl h e ∙ ap (λ u. slice_index_or u.items n no_child) is ∙ ap (child_at (get_at (last_path s) s)) end_is
 
 no_text : text_of_child no_child ≡ None
 no_text = ap layer_text (outs-Transparent _ _)
@@ -155,5 +142,5 @@ some_text [] h = let n = no_text in cc
 some_text (x ∷ xs) h = omega arith
 
 -- if the tree has a last text, there is a child at its end
-pub has_final : (s : ElemChildren) (v : Vec ElemChild Global) → v ≡ last_items s → is_some (last_text s) ≡ true → 0 < length v.items
+pub has_final : (s : ElemChildren) (v : Vec ElemChild Global) → v ≡ items_towards End s → is_some (last_text s) ≡ true → 0 < length v.items
 has_final s v is h = some_text v.items (ap (λ u. is_some (text_of_child (slice_index_or u.items (length u.items - 1) no_child))) is ∙ ap is_some (text_at_end s) ∙ h)

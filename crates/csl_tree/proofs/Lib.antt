@@ -19,9 +19,10 @@ pub mod NormalForms
 pub mod MetaEqual
 pub mod Searches
 pub mod Removals
-pub mod Walks
+pub mod Indices
 pub mod LastPlace
 pub mod NamesPlace
+pub mod Walks
 pub mod NamesFirst
 pub mod OnePass
 pub mod KeptLinks

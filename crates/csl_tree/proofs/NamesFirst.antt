@@ -5,7 +5,7 @@ use Rattle.std.specs.List.{flat_map, find}
 use Rattle.std.specs.Option.{option_or}
 use Rattle.csl_tree.specs.Search.{preorder, child_preorder, is_names, elem_of, layer_elem}
 use Rattle.csl_tree.specs.Places.{children_of, layer_children, child_at, no_child}
-use Rattle.csl_tree.specs.FindNames.{NamesPosition, absent, here, below, find_of_child, names_find, first_found, found_or, find_from, elem_at, first_names, is_found, is_nested_path}
+use Rattle.csl_tree.specs.FindNames.{NamesPosition, absent, here, below, find_of_child, names_find, first_found, found_or, find_from, elem_at, first_names, is_found}
 use Rattle.csl_tree.specs.declared.elem.ElemChild.{ElemChild}
 use Rattle.csl_tree.specs.declared.elem.ElemChild.TheOpen.{ElemChild-F, Elem-F, ElemChildren-F, Text, Elem, Markup, Link, Transparent}
 use Rattle.csl_tree.specs.declared.elem.ElemChild.TheViews.{out-ElemChild, out-roll-ElemChild, roll-ElemChild, roll-Elem, roll-ElemChildren}
@@ -14,7 +14,7 @@ use Rattle.csl_tree.specs.declared.elem.Elem as elem
 use Rattle.csl_tree.specs.declared.elem.ElemChildren.{ElemChildren}
 use Rattle.std.proofs.lemmas.List.Folds.{find-append}
 use Rattle.csl_tree.proofs.Searches.{preorder_out, child_out, layer_preorder}
-use Rattle.csl_tree.proofs.NamesPlace.{find_out, layer_found, Inside, inside, find_more, paths}
+use Rattle.csl_tree.proofs.NamesPlace.{find_out, layer_found, Inside, inside, is_nested_path, find_more, paths}
 use Rattle.csl_tree.proofs.NamesPlace as place
 
 abbrev elem_below : Option ElemChildren → List ℕ → Option elem.Elem

@@ -1,10 +1,12 @@
 -- Where the path to the first element of a `cs:names` leads.
-use Rattle.std.proofs.Common.{◌≡◌, ℕ, ◌+◌, ◌<◌, suc, Bool, true, false, not, List, [], ◌∷◌, length, map, refl, sym, ap, ◌∙◌, arith, slice_index_or, Option, Some, None, is_some}
+use Rattle.std.proofs.Common.{◌≡◌, ℕ, ◌+◌, ◌<◌, suc, Bool, true, false, List, [], ◌∷◌, length, map, refl, sym, ap, ◌∙◌, arith, slice_index_or, Option, Some, None, is_some}
 use Rattle.std.specs.Prelude.{unwrap_or}
 use Rattle.std.specs.declared.vec.Vec.{Vec}
 use Rattle.std.specs.declared.alloc.Global.{Global}
-use Rattle.csl_tree.specs.Places.{children_of, layer_children, child_at, put_child, descend, get_at, put_at, no_child}
-use Rattle.csl_tree.specs.FindNames.{NamesPosition, absent, here, below, find_child, find_elem, find_children, find_from, first_found, found_or, names_find, find_of_child, parent_path, optional_parent_path, names_path, is_nested_path, first_index, names_below, names_index, names_items, put_names_items, is_found, is_here, any_is_here, here_index, end_of, elem_at, put_elem_at, first_names, put_first_names}
+use Rattle.csl_tree.specs.Places.{children_of, layer_children, child_at, put_child, descend, get_at, put_at, first_of, no_child}
+use Rattle.csl_tree.specs.Walks.{goes_on, index_towards, items_towards, put_items_towards}
+use Rattle.csl_tree.specs.declared.places.Target.TheVariants.{Names}
+use Rattle.csl_tree.specs.FindNames.{NamesPosition, absent, here, below, find_child, find_elem, find_children, find_from, first_found, found_or, names_find, find_of_child, parent_path, optional_parent_path, names_path, is_found, is_here, any_is_here, here_index, end_of, elem_at, put_elem_at, first_names, put_first_names}
 use Rattle.std.specs.Vec.{with_item}
 use Rattle.csl_tree.specs.declared.elem.ElemChild.TheVariants as variants
 use Rattle.csl_tree.specs.declared.elem.ElemChild.{ElemChild}
@@ -14,7 +16,7 @@ use Rattle.csl_tree.specs.declared.elem.ElemChild.TheFolds.{fold-Elem, fold_out-
 use Rattle.csl_tree.specs.declared.elem.Elem as elem
 use Rattle.csl_tree.specs.declared.elem.ElemChildren.{ElemChildren}
 use Rattle.csl_tree.specs.Search.{is_names_meta, elem_of}
-use Rattle.csl_tree.proofs.Walks as walks
+use Rattle.csl_tree.proofs.Indices.{at_index}
 
 abbrev pub layer_found : ElemChild-F ElemChild elem.Elem ElemChildren → NamesPosition
 layer_found (Text t) = absent
@@ -35,6 +37,12 @@ child_out k = fold_out-ElemChild NamesPosition NamesPosition (Option (List ℕ))
 
 pub find_out : (c : ElemChildren) → names_find c ≡ first_found 0 (map find_of_child c.0.items)
 find_out c = fold_out-ElemChildren NamesPosition NamesPosition (Option (List ℕ)) find_child find_elem find_children c
+
+abbrev pub is_nested_path : List ℕ → Bool
+is_nested_path p = is_some (first_of p)
+
+abbrev first_index : List ℕ → ℕ
+first_index p = unwrap_or (first_of p) 0
 
 abbrev heads : Option (List ℕ) → ℕ
 heads None = 0
@@ -109,52 +117,26 @@ below_of c (Some (i ∷ j ∷ p)) e h = record { i = i; p = j ∷ p; found = e; 
 path_is : (c : ElemChildren) (b : Below c) → names_path c ≡ b.i ∷ parent_path b.p
 path_is c b = ap optional_parent_path b.found ∙ b.path
 
-child_in : (c : ElemChildren) (b : Below c) → Inside (children_of (child_at c (names_index c))) b.p
+child_in : (c : ElemChildren) (b : Below c) → Inside (children_of (child_at c (index_towards Names c))) b.p
 child_in c b =
     let a = at c.0.items 0 b.i b.p (sym (find_out c) ∙ b.found) b.further in
-    let index : a.m ≡ names_index c = omega (arith, a.is, ap first_index (path_is c b)) in
-    inside (out-ElemChild (child_at c (names_index c))) b.p (sym (child_out (child_at c (names_index c))) ∙ ap (λ k. find_of_child (child_at c k)) (sym index) ∙ a.found)
+    let index : a.m ≡ index_towards Names c = omega (arith, a.is, ap first_index (path_is c b)) in
+    inside (out-ElemChild (child_at c (index_towards Names c))) b.p (sym (child_out (child_at c (index_towards Names c))) ∙ ap (λ k. find_of_child (child_at c k)) (sym index) ∙ a.found)
 
 inner_is : (o : Option ElemChildren) (d e : ElemChildren) → Some d ≡ o → o ≡ Some e → d ≡ e
 inner_is o d e h k = ap (λ x. unwrap_or x d) (h ∙ k)
 
 -- the path goes on in the children of that child
-pub further : (c d : ElemChildren) (x : ElemChild) → x ≡ child_at c (names_index c) → Some d ≡ children_of x → names_below c ≡ true → names_path c ≡ names_index c ∷ names_path d
+pub further : (c d : ElemChildren) (x : ElemChild) → x ≡ child_at c (index_towards Names c) → Some d ≡ children_of x → goes_on Names c ≡ true → names_path c ≡ index_towards Names c ∷ names_path d
 further c d x is has e =
     let b = below_of c (names_find c) refl e in
     let n = child_in c b in
     let same : d ≡ n.inner = inner_is _ d n.inner (has ∙ ap children_of is) n.is in
     let inner : names_path d ≡ parent_path b.p = ap names_path same ∙ ap optional_parent_path n.found in
-    path_is c b ∙ ap (λ i. i ∷ parent_path b.p) (sym (ap first_index (path_is c b))) ∙ ap (λ p. names_index c ∷ p) (sym inner)
+    path_is c b ∙ ap (λ i. i ∷ parent_path b.p) (sym (ap first_index (path_is c b))) ∙ ap (λ p. index_towards Names c ∷ p) (sym inner)
 
-pub has_children : (c : ElemChildren) (x : ElemChild) → x ≡ child_at c (names_index c) → names_below c ≡ true → is_some (children_of x) ≡ true
+pub has_children : (c : ElemChildren) (x : ElemChild) → x ≡ child_at c (index_towards Names c) → goes_on Names c ≡ true → is_some (children_of x) ≡ true
 has_children c x is e = let n = child_in c (below_of c (names_find c) refl e) in ap (λ k. is_some (children_of k)) is ∙ ap is_some n.is
-
-none : (p : List ℕ) → is_nested_path p ≡ false → p ≡ []
-none [] h = refl
-none (i ∷ p) h = cc
-
-pub stops : (c : ElemChildren) → names_below c ≡ false → names_path c ≡ []
-stops c e = none (names_path c) e
-
-abbrev pub items_with : ElemChildren → ElemChild → ElemChildren → Vec ElemChild Global → ElemChildren
-items_with = walks.items_with names_path names_below names_index further stops
-
-pub reached_here : (c : ElemChildren) → names_below c ≡ false → c ≡ get_at (names_path c) c
-reached_here = walks.reached_here names_path names_below names_index further stops
-
-pub put_items_here : (c : ElemChildren) → names_below c ≡ false → walks.made ≡ put_names_items c
-put_items_here = walks.put_items_here names_path names_below names_index further stops
-
-module _ (c d : ElemChildren) (x : ElemChild) (is : x ≡ child_at c (names_index c)) (has : Some d ≡ children_of x) (on : names_below c ≡ true) where
-  pub reached_down : get_at (names_path d) d ≡ get_at (names_path c) c
-  reached_down = walks.reached_down names_path names_below names_index further stops c d x is has on
-
-  pub put_items_further : items_with c x d ≡ put_names_items c
-  put_items_further = walks.put_items_further names_path names_below names_index further stops c d x is has on
-
-  pub shorter : length (names_path d) < length (names_path c)
-  shorter = walks.shorter names_path names_below names_index further stops c d x is has on
 
 -- a path that is found is not empty
 found_more : (i : ℕ) (r : NamesPosition) (o : Option (List ℕ)) → (is_some o ≡ true → is_nested_path (paths o) ≡ true) → is_some (found_or i r o) ≡ true → is_nested_path (paths (found_or i r o)) ≡ true
@@ -169,32 +151,19 @@ first_more i (r ∷ rs) h = found_more i r (first_found (i + 1) rs) (first_more 
 pub find_more : (c : ElemChildren) → is_some (names_find c) ≡ true → is_nested_path (paths (names_find c)) ≡ true
 find_more c h = ap (λ o. is_nested_path (paths o)) (find_out c) ∙ first_more 0 (map find_of_child c.0.items) (sym (ap is_some (find_out c)) ∙ h)
 
-levels_more : (i : ℕ) (p : List ℕ) → is_nested_path p ≡ true → is_nested_path (parent_path (i ∷ p)) ≡ true
-levels_more i [] h = cc
-levels_more i (j ∷ p) h = refl
+-- the walk goes on in the child in which the element is found, if that is not the element
+next_when : (c : ElemChildren) (k : ElemChild) (i : ℕ) (r : NamesPosition) → find_of_child k ≡ r → is_found r ≡ true → is_here r ≡ false → names_find c ≡ found_or i r None → Some i ≡ first_of (names_path c)
+next_when c k i absent r h n e = cc
+next_when c k i here r h n e = cc
+next_when c k i (below []) r h n e =
+    let d = inside (out-ElemChild k) [] (sym (child_out k) ∙ r) in
+    absurd (not_more [] refl (ap (λ o. is_nested_path (paths o)) (sym d.found) ∙ find_more d.inner (ap is_some d.found)))
+next_when c k i (below (j ∷ p)) r h n e = sym (ap (λ o. first_of (optional_parent_path o)) e)
 
-below_when : (c : ElemChildren) (k : ElemChild) (i : ℕ) (r : NamesPosition) → find_of_child k ≡ r → is_found r ≡ true → names_find c ≡ found_or i r None → not (is_here r) ≡ names_below c
-below_when c k i absent r h e = cc
-below_when c k i here r h e = sym (ap (λ o. is_nested_path (optional_parent_path o)) e)
-below_when c k i (below p) r h e =
-    let n = inside (out-ElemChild k) p (sym (child_out k) ∙ r) in
-    let some : is_nested_path p ≡ true = ap (λ o. is_nested_path (paths o)) (sym n.found) ∙ find_more n.inner (ap is_some n.found) in
-    sym (ap (λ o. is_nested_path (optional_parent_path o)) e ∙ levels_more i p some)
-
--- whether the element is below the child in which it is found
-pub below_is : (c : ElemChildren) (k : ElemChild) (i : ℕ) → i < length c.0.items → k ≡ slice_index_or c.0.items i k → is_found (find_of_child (child_at c i)) ≡ true → names_find c ≡ found_or i (find_of_child (child_at c i)) None → not (is_here (find_of_child k)) ≡ names_below c
-below_is c k i l is h e =
-    let same : k ≡ child_at c i = walks.at_index c.0.items i i no_child refl l is in
-    ap (λ x. not (is_here (find_of_child x))) same ∙ below_when c (child_at c i) i (find_of_child (child_at c i)) refl h e
-
-index_when : (c : ElemChildren) (i : ℕ) (r : NamesPosition) → is_found r ≡ true → names_find c ≡ found_or i r None → names_below c ≡ true → i ≡ names_index c
-index_when c i absent h e b = cc
-index_when c i here h e b = let f = ap (λ o. is_nested_path (optional_parent_path o)) e in cc
-index_when c i (below []) h e b = let f = ap (λ o. is_nested_path (optional_parent_path o)) e in cc
-index_when c i (below (j ∷ p)) h e b = sym (ap (λ o. first_index (optional_parent_path o)) e)
-
-pub index_is : (c : ElemChildren) (i : ℕ) → is_found (find_of_child (child_at c i)) ≡ true → names_find c ≡ found_or i (find_of_child (child_at c i)) None → names_below c ≡ true → i ≡ names_index c
-index_is c i h e b = index_when c i (find_of_child (child_at c i)) h e b
+pub next_is : (c : ElemChildren) (k : ElemChild) (i : ℕ) → i < length c.0.items → k ≡ slice_index_or c.0.items i k → is_found (find_of_child (child_at c i)) ≡ true → is_here (find_of_child k) ≡ false → names_find c ≡ found_or i (find_of_child (child_at c i)) None → Some i ≡ first_of (names_path c)
+next_is c k i l is h n e =
+    let same : k ≡ child_at c i = at_index c.0.items i i no_child refl l is in
+    next_when c (child_at c i) i (find_of_child (child_at c i)) refl h (ap (λ x. is_here (find_of_child x)) (sym same) ∙ n) e
 
 -- ---- at the end of the path
 pub record Ends (xs : List ElemChild) (j i : ℕ) : Type 0 where
@@ -244,7 +213,7 @@ whole_of s None e h m = cc
 whole_of s (Some []) e h m = cc
 whole_of s (Some (i ∷ p)) e h m = record { p = i ∷ p; found = e; ends_at = along s i p e }
 
-module _ (s : ElemChildren) (h : is_some (names_find s) ≡ true) (v : Vec ElemChild Global) (is : v ≡ names_items s) where
+module _ (s : ElemChildren) (h : is_some (names_find s) ≡ true) (v : Vec ElemChild Global) (is : v ≡ items_towards Names s) where
   w : Whole s
   w = whole_of s (names_find s) refl h (find_more s h)
 
@@ -266,14 +235,14 @@ module _ (s : ElemChildren) (h : is_some (names_find s) ≡ true) (v : Vec ElemC
   abbrev put_along : elem.Elem → List ℕ → ℕ → ElemChildren
   put_along e q m = put_at q s (put_child (get_at q s) m (variants.Elem e))
 
-  pub put_names : (n : ℕ) → n ≡ here_index v.items → (e : elem.Elem) → put_names_items s (with_item v n (variants.Elem e)) ≡ put_first_names s e
+  pub put_names : (n : ℕ) → n ≡ here_index v.items → (e : elem.Elem) → put_items_towards Names s (with_item v n (variants.Elem e)) ≡ put_first_names s e
   put_names n n_is e =
-      ap (λ u. put_names_items s (with_item u n (variants.Elem e))) is
+      ap (λ u. put_items_towards Names s (with_item u n (variants.Elem e))) is
       ∙ ap (λ q. put_along e q n) path ∙ ap (put_along e (parent_path w.p)) (n_is ∙ end_is) ∙ ap (λ o. put_elem_at o s e) (sym w.found)
 
   pub names_are : (n : ℕ) → n ≡ here_index v.items → n < length v.items → (k : ElemChild) → k ≡ slice_index_or v.items n k → elem_of k ≡ first_names s
   names_are n n_is l k k_is =
-      ap elem_of (walks.at_index v.items n n no_child refl l k_is ∙ ap (λ u. slice_index_or u.items n no_child) at_end ∙ ap (λ m. child_at (get_at (parent_path w.p) s) m) (n_is ∙ end_is)) ∙ ap (λ o. elem_at o s) (sym w.found)
+      ap elem_of (at_index v.items n n no_child refl l k_is ∙ ap (λ u. slice_index_or u.items n no_child) at_end ∙ ap (λ m. child_at (get_at (parent_path w.p) s) m) (n_is ∙ end_is)) ∙ ap (λ o. elem_at o s) (sym w.found)
 
   pub child_here : (n : ℕ) → n ≡ here_index v.items → n < length v.items → (k : ElemChild) → k ≡ slice_index_or v.items n k → is_here (find_of_child k) ≡ true
-  child_here n n_is l k k_is = ap (λ x. is_here (find_of_child x)) (walks.at_index v.items n (here_index v.items) no_child n_is l k_is) ∙ here_at v.items has_here
+  child_here n n_is l k k_is = ap (λ x. is_here (find_of_child x)) (at_index v.items n (here_index v.items) no_child n_is l k_is) ∙ here_at v.items has_here

@@ -1,16 +1,13 @@
 -- The place of the first element of a `cs:names`, in preorder, and that element as a mutable
 -- reference. When the reference ends, the tree has the last value written through it, and is
 -- otherwise unchanged.
--- `find_of_child`, `find_at`, `first_index`, `names_index`, `names_items`, `put_names_items`,
--- `lends_names_items`, `lends_names_child`, `is_found`, `is_here`, `any_is_here`, `here_index`,
+-- `find_of_child`, `find_at`, `names_path`, `is_found`, `is_here`, `any_is_here`, `here_index`,
 -- `elem_at`, `first_names`, `lends_elem` and `lends_that_names` are internal: only the contracts of
 -- private functions cite them.
 use Rattle.std.specs.Prelude.{ℕ, ◌+◌, Bool, true, false, List, [], ◌∷◌, Option, Some, None, ◌||◌, if◌then◌else◌}
 use Rattle.std.specs.Borrow.{Fml, MutBor, Lends, LendsIf}
-use Rattle.std.specs.declared.vec.Vec.{Vec}
-use Rattle.std.specs.declared.alloc.Global.{Global}
 use Rattle.csl_tree.specs.Search.{is_names_meta, elem_of}
-use Rattle.csl_tree.specs.Places.{child_at, put_child, get_at, put_at, items_row}
+use Rattle.csl_tree.specs.Places.{child_at, put_child, get_at, put_at}
 use Rattle.csl_tree.specs.declared.elem.ElemChild.{ElemChild}
 use Rattle.csl_tree.specs.declared.elem.ElemChild.TheOpen.{ElemChild-F, Elem-F, ElemChildren-F, Text, Elem, Markup, Link, Transparent}
 use Rattle.csl_tree.specs.declared.elem.ElemChild.TheFolds.{fold-ElemChild, fold-ElemChildren}
@@ -82,33 +79,6 @@ optional_parent_path (Some p) = parent_path p
 
 abbrev pub names_path : ElemChildren → List ℕ
 names_path c = optional_parent_path (names_find c)
-
-abbrev pub is_nested_path : List ℕ → Bool
-is_nested_path [] = false
-is_nested_path (i ∷ p) = true
-
-abbrev pub first_index : List ℕ → ℕ
-first_index [] = 0
-first_index (i ∷ p) = i
-
--- whether the element is below a child, and the index of that child
-abbrev pub names_below : ElemChildren → Bool
-names_below c = is_nested_path (names_path c)
-
-abbrev pub names_index : ElemChildren → ℕ
-names_index c = first_index (names_path c)
-
-abbrev pub names_items : ElemChildren → Vec ElemChild Global
-names_items c = (get_at (names_path c) c).0
-
-abbrev pub put_names_items : ElemChildren → Vec ElemChild Global → ElemChildren
-put_names_items c v = put_at (names_path c) c (record { 0 = v })
-
-abbrev pub lends_names_items : MutBor ElemChildren → MutBor (Vec ElemChild Global) → Fml
-lends_names_items s r = Lends children.the_row items_row s r (put_names_items s.now)
-
-abbrev pub lends_names_child : MutBor ElemChildren → MutBor ElemChild → Fml
-lends_names_child s r = Lends children.the_row child.the_row s r (put_child s.now (names_index s.now))
 
 abbrev pub is_found : NamesPosition → Bool
 is_found absent = false

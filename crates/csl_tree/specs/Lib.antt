@@ -16,5 +16,6 @@ pub mod Tree
 pub mod Simplify
 pub mod Places
 pub mod FindNames
+pub mod Walks
 pub mod Search
 pub mod Laws

@@ -1,10 +1,10 @@
 -- A place in a tree is a path of indices. When a mutable reference to a place ends, the tree has
 -- the last value written there, and is otherwise unchanged. The path to the *end* of the tree goes
 -- down the last child as long as that is an element.
--- `layer_text`, `text_of_child`, `last_path_of_child`, `last_items`, `put_last_items`, `items_row`,
--- `lends_items`, `lends_last_items`, `lends_children`, `lends_last_child`, `lends_text` and
--- `lends_that_text` are internal: only the contracts of private functions cite them.
-use Rattle.std.specs.Prelude.{ℕ, ◌-◌, Bool, List, [], ◌∷◌, Option, Some, None, length, is_some, unwrap_or, slice_index_or}
+-- `layer_text`, `text_of_child`, `first_of`, `last_path_of_child`, `items_row`, `lends_items`,
+-- `lends_children`, `lends_text` and `lends_that_text` are internal: only the contracts of private
+-- functions cite them.
+use Rattle.std.specs.Prelude.{ℕ, ◌-◌, List, [], ◌∷◌, Option, Some, None, length, unwrap_or, slice_index_or}
 use Rattle.std.specs.Vec.{with_item}
 use Rattle.std.specs.Borrow.{Fml, MutBor, Lends, LendsIf}
 use Rattle.std.specs.declared.vec.Vec.{Vec}
@@ -83,12 +83,14 @@ abbrev pub put_at : List ℕ → ElemChildren → ElemChildren → ElemChildren
 put_at [] c w = w
 put_at (i ∷ p) c w = put_child c i (with_children (child_at c i) (put_at p (descend c i) w))
 
--- the index of the last child, and whether that is an element
+-- the first index of a path
+abbrev pub first_of : List ℕ → Option ℕ
+first_of [] = None
+first_of (i ∷ p) = Some i
+
+-- the index of the last child
 abbrev pub last : ElemChildren → ℕ
 last c = length c.0.items - 1
-
-abbrev pub ends_in_elem : ElemChildren → Bool
-ends_in_elem c = is_some (children_of (child_at c (last c)))
 
 -- the path to the end of the tree: down the last child as long as that is an element
 abbrev pub child_path : ElemChild-F (Option (List ℕ)) (List ℕ) (List ℕ) → Option (List ℕ)
@@ -117,13 +119,6 @@ last_path = fold-ElemChildren (Option (List ℕ)) (List ℕ) (List ℕ) child_pa
 abbrev pub last_path_of_child : ElemChild → Option (List ℕ)
 last_path_of_child = fold-ElemChild (Option (List ℕ)) (List ℕ) (List ℕ) child_path elem_path children_path
 
--- the items at the end of the tree, and the tree with others there
-abbrev pub last_items : ElemChildren → Vec ElemChild Global
-last_items c = (get_at (last_path c) c).0
-
-abbrev pub put_last_items : ElemChildren → Vec ElemChild Global → ElemChildren
-put_last_items c v = put_at (last_path c) c (record { 0 = v })
-
 -- the tree with another last child at its end, and with another last text
 abbrev pub put_final : ElemChildren → ElemChild → ElemChildren
 put_final c k = put_at (last_path c) c (put_child (get_at (last_path c) c) (last (get_at (last_path c) c)) k)
@@ -138,14 +133,8 @@ items_row = vec.the_row child.the_row global.the_row ghosts
 abbrev pub lends_items : MutBor ElemChildren → MutBor (Vec ElemChild Global) → Fml
 lends_items s r = Lends children.the_row items_row s r (λ v. record { 0 = v })
 
-abbrev pub lends_last_items : MutBor ElemChildren → MutBor (Vec ElemChild Global) → Fml
-lends_last_items s r = Lends children.the_row items_row s r (put_last_items s.now)
-
 abbrev pub lends_children : MutBor ElemChild → MutBor ElemChildren → Fml
 lends_children s r = Lends child.the_row children.the_row s r (with_children s.now)
-
-abbrev pub lends_last_child : MutBor ElemChildren → MutBor ElemChild → Fml
-lends_last_child s r = Lends children.the_row child.the_row s r (put_child s.now (last s.now))
 
 abbrev pub lends_text : MutBor ElemChild → MutBor Formatted → Fml
 lends_text s r = Lends child.the_row formatted.the_row s r (λ t. variants.Text t)

@@ -4,10 +4,11 @@ ghost use Rattle.std.specs.Prelude.{◌≡◌, ◌<◌, Some, None, IsTrue, is_s
 ghost use Rattle.std.specs.Borrow.{sem};
 ghost use Rattle.std.specs.List.{find};
 ghost use Rattle.csl_tree.specs.Search as spec;
-ghost use Rattle.csl_tree.specs.Places.{child_at};
-ghost use Rattle.csl_tree.specs.FindNames.{is_here, is_found, find_of_child, find_at, found_or, names_find, names_below, names_index, names_items, lends_names_items, lends_names_child, lends_elem, lends_that_names, lends_names, any_is_here, here_index, first_names};
+ghost use Rattle.csl_tree.specs.Places.{first_of};
+ghost use Rattle.csl_tree.specs.FindNames.{is_here, is_found, find_of_child, find_at, found_or, names_find, names_path, lends_elem, lends_that_names, lends_names, any_is_here, here_index, first_names};
 
 use crate::elem::{Elem, ElemChild, ElemChildren, ElemMeta};
+use crate::places::Target;
 
 impl ElemChild {
     /// Whether the child is the element of a `cs:names`.
@@ -79,40 +80,15 @@ impl ElemChildren {
         None
     }
 
-    /// Whether the first element of a `cs:names` is inside a child, and not itself a child.
-    fn names_below(&mut self) -> bool
-        ensures value { result ≡ names_below self.old }
-        ensures unchanged { self.new ≡ self.old }
+    /// The index of the child that contains the first element of a `cs:names`, if that is inside a
+    /// child and not itself a child.
+    pub(crate) fn next_to_names(&self) -> Option<usize>
+        ensures index { IfSome result (λ i. i < vec_len self.now.0) }
+        ensures value { result ≡ first_of (names_path self.now) }
     {
         match self.names_at() {
-            Some(i) => !self.0[i].is_names(),
-            None => false,
-        }
-    }
-
-    /// The child that contains the first element of a `cs:names`, as a mutable reference.
-    fn names_child_mut(&mut self) -> &mut ElemChild
-        requires { IsTrue (names_below self.old) }
-        ensures* writes_back { sem 𝓛 (lends_names_child self.entry result) }
-        ensures value { result.now ≡ child_at self.old (names_index self.old) }
-    {
-        match self.names_at() {
-            Some(i) => &mut self.0[i],
-            None => unreachable!(),
-        }
-    }
-
-    /// The list of children that has the first element of a `cs:names` as an item, as a mutable
-    /// reference. If there is no such element, it is the outermost list.
-    #[cycle(names)]
-    fn names_items_mut(&mut self) -> &mut Vec<ElemChild>
-        ensures* writes_back { sem 𝓛 (lends_names_items self.entry result) }
-        ensures value { result.now ≡ names_items self.old }
-    {
-        if self.names_below() {
-            self.names_child_mut().children_mut().names_items_mut()
-        } else {
-            self.items_mut()
+            Some(i) => { if self.0[i].is_names() { None } else { Some(i) } }
+            None => None,
         }
     }
 
@@ -122,7 +98,7 @@ impl ElemChildren {
         ensures* writes_back { sem 𝓛 (lends_that_names self.entry result) }
         ensures value { Some result.now ≡ first_names self.old }
     {
-        let items = self.names_items_mut();
+        let items = self.items_mut_towards(Target::Names);
         let first = first_of_names(items);
         let child = &mut items[first];
         child.elem_mut()

@@ -20,6 +20,7 @@ pub mod html_error;
 mod last_text;
 mod links;
 mod marks;
+mod places;
 pub mod read;
 mod search;
 pub mod simplify;

@@ -5,21 +5,21 @@ use Rattle.csl_tree.proofs.elem.ElemChildren.existing_text_mut.Goals as goal
 
 pub overflow_sub-last : goal.overflow_sub-last
 overflow_sub-last c =
-    let v = c.last_items_mut-items.result.now in
-    let some = has_final c.args.self.now v c.last_items_mut-items.ensures.value c.requires in
+    let v = c.items_mut_towards-items.result.now in
+    let some = has_final c.args.self.now v c.items_mut_towards-items.ensures.value c.requires in
     omega (arith, v.ok.0, c.len-last.ensures, some)
 
 pub index_mut-child-requires : goal.index_mut-child-requires
 index_mut-child-requires c =
-    let v = c.last_items_mut-items.result.now in
-    let some = has_final c.args.self.now v c.last_items_mut-items.ensures.value c.requires in
+    let v = c.items_mut_towards-items.result.now in
+    let some = has_final c.args.self.now v c.items_mut_towards-items.ensures.value c.requires in
     omega (arith, v.ok.0, c.len-last.ensures, some)
 
 pub text_mut-requires : goal.text_mut-requires
 text_mut-requires c =
     let s = c.args.self.now in
-    let v = c.last_items_mut-items.result.now in
-    let is = c.last_items_mut-items.ensures.value in
+    let v = c.items_mut_towards-items.result.now in
+    let is = c.items_mut_towards-items.ensures.value in
     let n = c.len-last.result - 1 in
     let some = has_final s v is c.requires in
     let end : n ≡ length v.items - 1 = omega (arith, v.ok.0, c.len-last.ensures) in
@@ -28,8 +28,8 @@ text_mut-requires c =
 pub returns : goal.returns
 returns c =
     let s = c.args.self.now in
-    let v = c.last_items_mut-items.result.now in
-    let is = c.last_items_mut-items.ensures.value in
+    let v = c.items_mut_towards-items.result.now in
+    let is = c.items_mut_towards-items.ensures.value in
     let n = c.len-last.result - 1 in
     let some = has_final s v is c.requires in
     let end : n ≡ length v.items - 1 = omega (arith, v.ok.0, c.len-last.ensures) in (
