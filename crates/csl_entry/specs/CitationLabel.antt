@@ -10,21 +10,20 @@
 --   one if the year is 0 or less, in at least two digits. Without a date there is no year.
 -- So a label depends only on the creators, their stand-in and a date (`LabelParts`). Entries with
 -- the same `works` have the same label (`LabelIsShown`).
-use Rattle.std.specs.Prelude.{◌≡◌, ℕ, true, zero, suc, pos, negsuc, ℤ, ◌+◌, ◌%◌, List, [], ◌∷◌, ◌++◌, Option, Some, None, option_map, take, filter, chars, encode_utf8_all, codes, string_bytes, nat_lt, if◌then◌else◌}
+use Rattle.std.specs.Prelude.{◌≡◌, ℕ, true, zero, suc, pos, negsuc, ℤ, ◌+◌, ◌%◌, List, [], ◌∷◌, ◌++◌, Option, Some, None, option_map, take, filter, chars, encode_utf8_all, codes, nat_lt, if◌then◌else◌}
 use Rattle.std.specs.Fmt.{decimal}
 use Rattle.std.specs.List.{concat}
 use Rattle.std.specs.Option.{option_or}
 use Rattle.unicode.specs.Binary.{is_alphabetic}
 use Rattle.unicode_segmentation.specs.Grapheme.{graphemes}
 use Rattle.lit_model.specs.declared.date.Date.{Date}
-use Rattle.lit_model.specs.declared.entry.Entry.{Entry, out-Entry}
-use Rattle.lit_model.specs.declared.text.FormatString.{FormatString}
+use Rattle.lit_model.specs.declared.entry.Entry.{Entry}
 use Rattle.lit_model.specs.Chunks.{chunks_text}
 use Rattle.lit_model.specs.Date.{DateView, date_view}
 use Rattle.lit_model.specs.Person.{PersonView}
 use Rattle.lit_model.specs.Select.{full_of}
-use Rattle.lit_model.specs.Text.{chunks}
-use Rattle.lit_model.specs.Work.{works}
+use Rattle.lit_model.specs.Text.{FormatStringView}
+use Rattle.lit_model.specs.Work.{Own, own_of, works}
 use Rattle.csl_entry.specs.Creators.{creators_of}
 use Rattle.csl_entry.specs.EntryDate.{issue_date, visit_date}
 
@@ -47,13 +46,13 @@ alphabetic_part key = encode_utf8_all (filter is_alphabetic (chars key))
 
 -- the stand-in for creators: the organization, else the title, both in full; else the alphabetic
 -- characters of the key
-abbrev pub stand_in_of : Option FormatString → Option FormatString → List ℕ → List ℕ
-stand_in_of (Some organization) title key = chunks_text (chunks organization.value)
-stand_in_of None (Some title) key = chunks_text (chunks title.value)
+abbrev pub stand_in_of : Option FormatStringView → Option FormatStringView → List ℕ → List ℕ
+stand_in_of (Some organization) title key = chunks_text organization.value
+stand_in_of None (Some title) key = chunks_text title.value
 stand_in_of None None key = alphabetic_part key
 
-abbrev pub stand_in : Entry → List ℕ
-stand_in e = stand_in_of (out-Entry e).organization (out-Entry e).title (string_bytes (out-Entry e).key)
+abbrev pub stand_in : Own → List ℕ
+stand_in own = stand_in_of own.organization own.title own.key
 
 -- the date of a label: the issue date, else the visit date of the first address
 abbrev pub label_date : Entry → Option Date
@@ -81,7 +80,7 @@ pub record LabelParts : Type 0 where
   pub date : Option DateView
 
 abbrev pub label_parts : Entry → LabelParts
-label_parts e = record { creators = creators_of e; stand_in = stand_in e; date = option_map date_view (label_date e) }
+label_parts e = record { creators = creators_of e; stand_in = stand_in (own_of e); date = option_map date_view (label_date e) }
 
 -- the creators, then the year
 abbrev pub label_from : ℕ → LabelParts → List ℕ

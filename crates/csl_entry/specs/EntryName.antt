@@ -12,8 +12,9 @@
 --   is one, else the entry itself if it is one).
 -- - Editorial director, guest, host, interviewer, recipient, reviewed author: nobody. A variable of
 --   another work also has nobody if the entry has no such work.
-use Rattle.std.specs.Prelude.{Bool, List, [], ◌∷◌, map, Option, Some, None}
+use Rattle.std.specs.Prelude.{Bool, List, [], ◌∷◌, map, Option, Some, None, Vec}
 use Rattle.std.specs.List.{list_any, filter}
+use Rattle.std.specs.declared.alloc.Global.{Global}
 use Rattle.csl_elements.specs.declared.taxonomy.NameVariable.{NameVariable}
 use Rattle.csl_elements.specs.declared.taxonomy.NameVariable.TheVariants.{Author, Chair, CollectionEditor, Compiler, Composer, ContainerAuthor, Contributor, Curator, Director, Editor, EditorialDirector, EditorTranslator, ExecutiveProducer, Guest, Host, Illustrator, Interviewer, Narrator, Organizer, OriginalAuthor, Performer, Producer, Recipient, ReviewedAuthor, ScriptWriter, SeriesCreator, Translator}
 use Rattle.lit_model.specs.declared.entry.Entry.{Entry, out-Entry}
@@ -23,7 +24,7 @@ use Rattle.lit_model.specs.declared.person.PersonRole.TheVariants as role
 use Rattle.lit_model.specs.Person.{PersonView, person_view}
 use Rattle.lit_model.specs.SamePerson.{same_person}
 use Rattle.lit_model.specs.Select.{ClauseView, parent_of, bound_select, original, audio_video, container_of, collection_of}
-use Rattle.csl_entry.specs.Creators.{in_role, persons_or}
+use Rattle.csl_entry.specs.Creators.{in_role}
 
 -- selects the first parent that is proceedings or a conference
 abbrev pub conference_clauses : List ClauseView
@@ -36,6 +37,11 @@ exhibition = parent_of [] (Exhibition ∷ []) ∷ []
 abbrev pub persons_of_bound : (Entry → List Person) → Option Entry → List Person
 persons_of_bound persons None = []
 persons_of_bound persons (Some e) = persons e
+
+-- the listed persons, or the others if there is no list; an empty list counts as one
+abbrev pub persons_or : Option (Vec Person Global) → List Person → List Person
+persons_or (Some persons) others = persons.items
+persons_or None others = others
 
 abbrev pub own_authors : Entry → List Person
 own_authors e = persons_or (out-Entry e).authors []

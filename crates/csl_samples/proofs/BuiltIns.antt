@@ -1,25 +1,23 @@
 -- The label and the kinds of a built-in entry.
 use Rattle.std.proofs.Common.{◌≡◌, ℕ, Bool, true, false, ◌&&◌, List, [], ◌∷◌, Option, Some, None, map, option_map, refl, ap, ◌∙◌}
-use Rattle.std.specs.Prelude.{is_none, Vec, ◌||◌, Result, Ok, Err, IfOk, String, string_bytes}
+use Rattle.std.specs.Prelude.{is_none, unwrap_or, ◌||◌, Result, Ok, Err, IfOk, String, string_bytes}
 use Rattle.std.specs.Option.{option_or}
 use Rattle.std.specs.declared.alloc.Global.{Global}
 use Rattle.lit_model.specs.declared.date.Date.{Date}
 use Rattle.lit_model.specs.declared.entry.Entry.{Entry, out-Entry}
 use Rattle.lit_model.specs.declared.entry_type.EntryType.TheVariants.{Chapter, Scene}
-use Rattle.lit_model.specs.declared.person.Person.{Person}
 use Rattle.lit_model.specs.Date.{DateView, date_view}
 use Rattle.lit_model.specs.Entry.{parents_of}
-use Rattle.lit_model.specs.Person.{PersonView, person_view}
+use Rattle.lit_model.specs.Person.{PersonView}
 use Rattle.lit_model.specs.Select.{same_type, is_untitled_part, full_of}
 use Rattle.lit_model.specs.Text.{FormatStringView, format_string_view}
 use Rattle.lit_model.specs.Work.{Own, own_of}
 use Rattle.lit_model.proofs.Preorder.{first_some_here}
 use Rattle.lit_model.proofs.Whole.{full_whole}
-use Rattle.csl_entry.specs.CitationLabel.{label_parts, label_from, label_date, label}
-use Rattle.csl_entry.specs.Creators.{creators_of, persons_or}
+use Rattle.csl_entry.specs.CitationLabel.{stand_in, label_parts, label_from, label_date, label}
+use Rattle.csl_entry.specs.Creators.{makers, creators_of}
 use Rattle.csl_entry.specs.EntryDate.{date_in, visit_date}
 use Rattle.csl_entry.specs.EntryKind.{typing_of, typing_from, is_kind}
-use Rattle.csl_entry.proofs.ShowSame.{own_stand_in, stand_in_own}
 use Rattle.csl_entry.proofs.Typings.{typing_shown}
 use Rattle.csl_elements.specs.declared.taxonomy.Kind.{Kind}
 use Rattle.csl_samples.specs.declared.entries.BuiltIn.{BuiltIn}
@@ -46,10 +44,6 @@ kind_built_in entry kind e h = ap (is_kind kind) (typing_built_in entry e h)
 
 -- ---- labels
 
-named_authors : (o : Option (Vec Person Global)) (others : List Person) (names : List PersonView) → option_map (λ v. map person_view v.items) o ≡ Some names → map person_view (persons_or o others) ≡ names
-named_authors None others names h = cc
-named_authors (Some v) others names h = cc
-
 titled : {A B : Type 0} (f : A → B) (o : Option A) (t : B) → option_map f o ≡ Some t → is_none o ≡ false
 titled f None t h = cc
 titled f (Some x) t h = refl
@@ -66,11 +60,11 @@ label_date_is : (e : Entry) (date : DateView) → option_map date_view (out-Entr
 label_date_is e date h = ap (λ d. option_map date_view (option_or d (visit_date e))) (first_some_here date_in e) ∙ own_date_first (date_in e) _ (visit_date e) date h
 
 -- the label of a work with authors, a title and a date
-label_shown : (own : Own) (date : DateView) (names : List PersonView) (title : FormatStringView) (e : Entry) → Shows own (Some date) e → own.authors ≡ Some names → own.title ≡ Some title → label_parts (full_of e) ≡ record { creators = names; stand_in = own_stand_in own; date = Some date }
+label_shown : (own : Own) (date : DateView) (names : List PersonView) (title : FormatStringView) (e : Entry) → Shows own (Some date) e → own.authors ≡ Some names → own.title ≡ Some title → label_parts (full_of e) ≡ record { creators = names; stand_in = stand_in own; date = Some date }
 label_shown own date names title e shows authors has_title =
     let untitled : is_untitled_part e ≡ false = ap (λ b. (same_type (out-Entry e).entry_type Chapter || same_type (out-Entry e).entry_type Scene) && b) (titled format_string_view (out-Entry e).title title (ap (λ (o : Own). o.title) shows.fields ∙ has_title)) ∙ and_false _ in
-    let creators : creators_of e ≡ names = named_authors (out-Entry e).authors _ names (ap (λ (o : Own). o.authors) shows.fields ∙ authors) in
-    let other = stand_in_own e ∙ ap own_stand_in shows.fields in
+    let creators : creators_of e ≡ names = ap (λ (o : Option (List PersonView)). unwrap_or o (unwrap_or (own_of e).editors (makers e))) (ap (λ (o : Own). o.authors) shows.fields ∙ authors) in
+    let other = ap stand_in shows.fields in
     let dated = label_date_is e date shows.date_is in
     ap label_parts (full_whole e untitled) ∙ (λ i. record { creators = creators i; stand_in = other i; date = dated i })
 

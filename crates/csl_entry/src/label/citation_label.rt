@@ -2,6 +2,7 @@
 
 ghost use Rattle.std.specs.Prelude.{◌≡◌, ◌++◌, option_copied, option_map, string_bytes, IfOk, OnOk};
 ghost use Rattle.lit_model.specs.Date.{date_view};
+ghost use Rattle.lit_model.specs.Work.{own_of};
 ghost use Rattle.csl_entry.specs.Creators.{creators_of};
 ghost use Rattle.csl_entry.specs.CitationLabel as spec;
 
@@ -63,7 +64,8 @@ impl Alphanumerical {
 
     fn push_creators(self, alloc: Global, label: &mut String, work: &Entry) -> Result<(), Memory>
         ensures { OnOk result (string_bytes label.new ≡ string_bytes label.old
-            ++ spec.creators_part self.letters (spec.stand_in work.now) (creators_of work.now)) }
+            ++ spec.creators_part self.letters (spec.stand_in (own_of work.now))
+            (creators_of work.now)) }
     {
         let creators = creators(alloc, work)?;
         match creators.as_slice() {
@@ -102,7 +104,7 @@ fn push_letters(label: &mut String, text: &str, count: usize) -> Result<(), Memo
 /// The text in place of creators: the organization, else the title, else the alphabetic characters
 /// of the key.
 fn stand_in(alloc: Global, work: &Entry) -> Result<String, Memory>
-    ensures { IfOk result (λ s. string_bytes s ≡ spec.stand_in work.now) }
+    ensures { IfOk result (λ s. string_bytes s ≡ spec.stand_in (own_of work.now)) }
 {
     let text = match (&work.organization, &work.title) {
         (Some(organization), _) => organization.value.to_text(alloc)?,

@@ -50,17 +50,17 @@ fn references(alloc: Global, persons: &[Person]) -> Result<Vec<&Person>, Memory>
 
 /// The makers of a work, by its type: the creators of a work without lists of authors and editors.
 fn makers(alloc: Global, entry: &Entry) -> Result<Vec<&Person>, Memory>
-    ensures { IfOk result (λ v. map (λ p. p.now) v.items ≡ spec.makers entry.now) }
+    ensures { IfOk result (λ v. map (λ p. person_view p.now) v.items ≡ spec.makers entry.now) }
 {
     if entry.entry_type != EntryType::Video {
-        let compilers = entry.affiliated_with_role(alloc, &PersonRole::Compiler)?;
+        let compilers = by_role(alloc, entry, &PersonRole::Compiler)?;
         return or_role(alloc, compilers, entry, &PersonRole::Translator);
     }
-    let directors = entry.affiliated_with_role(alloc, &PersonRole::Director)?;
+    let directors = by_role(alloc, entry, &PersonRole::Director)?;
     match entry.bound_select(series()) {
         None => or_role(alloc, directors, entry, &PersonRole::ExecutiveProducer),
         Some(series) => {
-            let writers = entry.affiliated_with_role(alloc, &PersonRole::Writer)?;
+            let writers = by_role(alloc, entry, &PersonRole::Writer)?;
             let makers = followed_by(directors, writers)?;
             or_role(alloc, makers, series, &PersonRole::ExecutiveProducer)
         }
@@ -71,8 +71,9 @@ fn followed_by<'a>(
     mut first: Vec<&'a Person>,
     mut second: Vec<&'a Person>,
 ) -> Result<Vec<&'a Person>, Memory>
-    ensures { IfOk result (λ v. map (λ p. p.now) v.items
-        ≡ map (λ p. p.now) first.entry.items ++ map (λ p. p.now) second.entry.items) }
+    ensures { IfOk result (λ v. map (λ p. person_view p.now) v.items
+        ≡ map (λ p. person_view p.now) first.entry.items
+        ++ map (λ p. person_view p.now) second.entry.items) }
 {
     first.append(&mut second)?;
     Ok(first)
@@ -85,11 +86,26 @@ fn or_role<'a>(
     entry: &'a Entry,
     role: &PersonRole,
 ) -> Result<Vec<&'a Person>, Memory>
-    ensures { IfOk result (λ v. map (λ p. p.now) v.items
-        ≡ spec.or_else (map (λ p. p.now) persons.entry.items) (spec.in_role role.now entry.now)) }
+    ensures { IfOk result (λ v. map (λ p. person_view p.now) v.items
+        ≡ spec.or_else (map (λ p. person_view p.now) persons.entry.items)
+        (spec.by_role entry.now role.now)) }
 {
     if persons.as_slice().is_empty() {
-        return entry.affiliated_with_role(alloc, role);
+        return by_role(alloc, entry, role);
     }
+    Ok(persons)
+}
+
+/// The entry's own persons of a role, in order.
+#[tactic(auto, using(crate::proofs::Persons::named_each))]
+fn by_role<'a>(
+    alloc: Global,
+    entry: &'a Entry,
+    role: &PersonRole,
+) -> Result<Vec<&'a Person>, Memory>
+    ensures { IfOk result (λ v. map (λ p. person_view p.now) v.items
+        ≡ spec.by_role entry.now role.now) }
+{
+    let persons = entry.affiliated_with_role(alloc, role)?;
     Ok(persons)
 }
