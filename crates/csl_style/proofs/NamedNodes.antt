@@ -1,20 +1,23 @@
 -- What the nodes of a list name one by one, which is together what the list names with all macros
 -- expanded.
-use Rattle.std.proofs.Common.{◌≡◌, ℕ, Bool, true, false, List, [], ◌∷◌, ◌++◌, map, Option, Some, None, option_map, refl, sym, ap, ap₂, ◌∙◌, arith, if◌then◌else◌}
+use Rattle.std.proofs.Common.{◌≡◌, ℕ, List, [], ◌∷◌, ◌++◌, map, Option, Some, None, option_map, refl, sym, ap, ap₂, ◌∙◌}
+use Rattle.std.proofs.lemmas.Grind.{common_steps}
 use Rattle.csl_elements.specs.NamedSet.{named_set, NamedSet, empty_named_set, named_union}
-use Rattle.csl_elements.specs.Names.{NamesNode, shorthand_expansion}
-use Rattle.csl_elements.specs.Node.{Node, text, call, number, label, date, names, choose, group, Nodes, no_nodes, node, Branches, no_branches, otherwise, branch, Substitutes, no_substitutes, substitute, ExpandedNode, ExpandedNodes, expanded_names, shorthand, expand, expand_call, expand_nodes, expand_branches, expand_substitutes, expand_substitute_nodes, as_substitute_child, is_childless}
+use Rattle.csl_elements.specs.Names.{NamesNode}
+use Rattle.csl_elements.specs.Node.{Node, text, call, number, label, date, names, choose, group, Nodes, no_nodes, node, Branches, no_branches, otherwise, branch, Substitutes, no_substitutes, substitute, ExpandedNodes, expand, expand_call, expand_nodes, expand_branches, expand_substitutes}
 use Rattle.csl_elements.specs.Dressing.{TextDressing}
 use Rattle.csl_elements.specs.View.{view_choose, view_branch, view_names, branches_of, NamesChildView, BranchView, element_step, child_step, choose_step, branch_step, group_step, names_step, substitute_step}
 use Rattle.csl_elements.specs.declared.element.Choose.{Choose, out-Choose}
 use Rattle.csl_elements.specs.declared.element.ChooseBranch.{ChooseBranch, out-ChooseBranch}
-use Rattle.csl_elements.specs.declared.element.LayoutRenderingElement.TheFolds.{fold_out-Names, fold_out-ChooseBranch}
-use Rattle.csl_elements.specs.declared.element.Names.{Names as NamesElement, out-Names}
+use Rattle.csl_elements.specs.declared.element.LayoutRenderingElement.TheFolds.{fold_out-ChooseBranch}
+use Rattle.csl_elements.specs.declared.element.Names.{Names, out-Names}
 use Rattle.csl_elements.specs.declared.named.Named.{Named}
+use Rattle.csl_elements.proofs.Rolled.{names_view}
 use Rattle.csl_elements.proofs.Sets.{join_assoc, join_none, none_join, join_same, join_turn}
 use Rattle.csl_style.specs.AllNodes.{all_nodes, nodes_inside, nodes_in_branches, nodes_in_substitutes, called_name}
 use Rattle.csl_style.specs.Named.{named_in_node, named_in_nodes, named_in_branches, named_in_substitutes, named_in_names, named_in_macro, named_in_target, named_in_tests, the_number_or_page, date_if, each_of, each_if, the_name, the_variable, the_date, the_kind}
 use Rattle.csl_style.specs.NamedWalk.{Adds, named_itself, named_in_all_tests, named_in_tests_of, called_nodes}
+use Rattle.csl_style.proofs.Within.{substitutes_within}
 use Rattle.csl_style.proofs.YearSuffixes.{choose_out}
 
 pub adds_nothing : (n : Named) → Adds empty_named_set n n
@@ -23,10 +26,13 @@ adds_nothing n = sym (join_none (named_set n))
 pub adds_both : (a b : NamedSet) (x y z : Named) → Adds a x y → Adds b y z → Adds (named_union a b) x z
 adds_both a b x y z f g = g ∙ ap (λ n. named_union n b) f ∙ join_assoc (named_set x) a b
 
+-- for a loop that adds what each item names
+pub ruleset join_laws = (common_steps, join_assoc, join_none)
+
 -- ---- one level of names, a branch and a choose
 
-pub names_itself : (x : NamesElement) → named_itself (view_names x) ≡ each_of the_name (out-Names x).variable.items
-names_itself x = rw (fold_out-Names Node NamesChildView Node BranchView Node Node Nodes element_step child_step choose_step branch_step group_step names_step substitute_step x) refl
+pub names_itself : (x : Names) → named_itself (view_names x) ≡ each_of the_name (out-Names x).variable.items
+names_itself x = ap named_itself (names_view x)
 
 pub tests_out : (b : ChooseBranch) → named_in_tests_of b ≡ named_union (each_if the_variable (option_map (λ v. v.items) (out-ChooseBranch b).is_numeric)) (named_union (each_if the_date (option_map (λ v. v.items) (out-ChooseBranch b).is_uncertain_date)) (named_union (each_if the_kind (option_map (λ v. v.items) (out-ChooseBranch b).type_)) (each_if the_variable (option_map (λ v. v.items) (out-ChooseBranch b).variable))))
 tests_out b = rw (fold_out-ChooseBranch Node NamesChildView Node BranchView Node Node Nodes element_step child_step choose_step branch_step group_step names_step substitute_step b) refl
@@ -38,6 +44,10 @@ all_tests (b ∷ bs) o = ap (named_union (named_in_tests_of b)) (all_tests bs o)
 
 pub choose_itself : (x : Choose) → named_itself (view_choose x) ≡ named_union (named_in_tests_of (out-Choose x).if_) (each_of named_in_tests_of (out-Choose x).else_if.items)
 choose_itself x = ap named_itself (choose_out x) ∙ ap (named_union (named_in_tests_of (out-Choose x).if_)) (all_tests (out-Choose x).else_if.items _)
+
+pub ruleset names_laws = (join_laws, names_itself)
+
+pub ruleset choose_laws = (join_laws, choose_itself)
 
 -- ---- all nodes
 
@@ -53,22 +63,10 @@ module _ (env : List ℕ → Option ExpandedNodes) where
   of_substitutes no_substitutes = empty_named_set
   of_substitutes (substitute ns ss) = named_union (named_in_nodes (expand_nodes env ns)) (of_substitutes ss)
 
-  childless : (n m : NamesNode) (ss : Substitutes) (b : Bool) → is_childless n ss ≡ b → m.variables ≡ n.variables → (f : ExpandedNode) → f ≡ expanded_names n (expand_substitutes env n ss) → named_in_node (if b then shorthand n m else f) ≡ named_in_node f
-  childless n m no_substitutes true e v f h = rw (h, v) (join_same (named_in_names n) ∙ sym (join_none (named_in_names n)))
-  childless n m (substitute ns ss) true e v f h = grind (arith, e)
-  childless n m ss false e v f h = refl
-
-  names_within : (original : NamesNode) (n : Node) → named_in_node (as_substitute_child original n (expand env n)) ≡ named_in_node (expand env n)
-  names_within original (names n ss) = childless n (shorthand_expansion original n) ss (is_childless n ss) refl refl (expanded_names n (expand_substitutes env n ss)) refl
-  names_within original other = refl
-
-  all_within : (original : NamesNode) (ns : Nodes) → named_in_nodes (expand_substitute_nodes env original ns) ≡ named_in_nodes (expand_nodes env ns)
-  all_within original no_nodes = refl
-  all_within original (node n ns) = ap₂ named_union (names_within original n) (all_within original ns)
-
   insteads_same : (original : NamesNode) (ss : Substitutes) → named_in_substitutes (expand_substitutes env original ss) ≡ of_substitutes ss
-  insteads_same original no_substitutes = refl
-  insteads_same original (substitute ns ss) = ap₂ named_union (all_within original ns) (insteads_same original ss)
+  insteads_same =
+      substitutes_within env named_in_node named_in_nodes named_union (λ original n. join_same (named_in_names n) ∙ sym (join_none (named_in_names n))) (λ f fs. refl)
+      named_in_substitutes of_substitutes named_union refl (λ fs is. refl) (λ ns ss. refl)
 
   -- ---- a list is what its nodes name one by one
 

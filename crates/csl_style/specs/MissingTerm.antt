@@ -50,10 +50,10 @@ use Rattle.csl_elements.specs.declared.term.TermForm.{TermForm}
 use Rattle.csl_elements.specs.declared.term.TermForm.TheVariants.{Long, Short}
 use Rattle.csl_elements.specs.Lookup.{date_in_form}
 use Rattle.csl_elements.specs.Locale.{terms_of}
-use Rattle.csl_elements.specs.Names.{NameNode, EtAlNode, LabelNode, NamesLabel, NamesNode, first_name, shorthand_expansion}
+use Rattle.csl_elements.specs.Names.{NameNode, EtAlNode, LabelNode, NamesLabel, NamesNode, first_name}
 use Rattle.csl_elements.specs.Node.{DateNode, DatePartNode, Target, of_variable, of_term, of_value, ExpandedNode, expanded_text, expanded_macro, unknown_macro, expanded_number, expanded_label, expanded_date, expanded_names, shorthand, expanded_choose, expanded_group, ExpandedNodes, no_expanded_nodes, expanded_node, ExpandedBranches, no_expanded_branches, expanded_otherwise, expanded_branch, ExpandedSubstitutes, no_expanded_substitutes, expanded_substitute, expand_substitute_nodes, expand_layout}
 use Rattle.csl_elements.specs.Term.{term_text, same_term}
-use Rattle.csl_elements.specs.View.{NamesChildView, a_name, an_et_al, a_label, a_substitute, view_date, view_layout}
+use Rattle.csl_elements.specs.View.{NamesChildView, a_substitute, view_date, view_layout}
 use Rattle.csl_style.specs.declared.missing_term.TermScope.{TermScope}
 use Rattle.csl_style.specs.declared.style.settings.Scope.TheVariants.{Citation, Bibliography}
 use Rattle.csl_style.specs.declared.style.settings.StyleSettings.{StyleSettings}
@@ -138,9 +138,9 @@ abbrev pub et_al_term : Option EtAlNode → OtherTerm
 et_al_term None = EtAl
 et_al_term (Some e) = e.term
 
--- the label, if it is on that side of the names: after them if `behind`
+-- the label, if it is on that side of the names: after them if `after`
 abbrev pub label_on : Bool → Option NamesLabel → Option LabelNode
-label_on behind None = None
+label_on after None = None
 label_on true (Some l) = if l.is_after then Some l.label else None
 label_on false (Some l) = if l.is_after then None else Some l.label
 
@@ -197,14 +197,12 @@ abbrev mutual
 
 -- by a child of names as written; only a substitute asks; only private contracts cite it
 abbrev pub asked_in_child : List Locale → (List ℕ → Option ExpandedNodes) → NamesNode → TermScope → NamesChildView → List AskedTerm
-asked_in_child ls env original a (a_name n) = []
-asked_in_child ls env original a (an_et_al e) = []
-asked_in_child ls env original a (a_label l) = []
 asked_in_child ls env original a (a_substitute ns) = asked_in_nodes ls a (expand_substitute_nodes env original ns)
+asked_in_child ls env original a other = []
 
 -- ---- layouts
 
--- TermScope a layout, `and` is a word if it is in one of the two scopes, unless names set otherwise.
+-- Around a layout, `and` is a word if it is in one of the two scopes, unless names set otherwise.
 abbrev pub scope_of_layout : StyleSettings → TermScope
 scope_of_layout s = record {
   writes_and = writes_and (base_options Citation s).and false || writes_and (base_options Bibliography s).and false;

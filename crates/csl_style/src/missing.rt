@@ -20,9 +20,9 @@ fn if_missing<'s>(style: &Style, name: &'s str) -> Option<&'s str>
 
 /// The first missing name in an element.
 #[cycle(missing)]
-fn missing_in<'s>(style: &Style, element: &'s LayoutRenderingElement) -> Option<&'s str>
+fn missing_macro_in<'s>(style: &Style, element: &'s LayoutRenderingElement) -> Option<&'s str>
     ensures { option_map (λ name. name.now) result
-        ≡ spec.missing_in (definitions style.now.macros) (view_node element.now) }
+        ≡ spec.missing_macro_in (definitions style.now.macros) (view_node element.now) }
 {
     match element {
         LayoutRenderingElement::Text(text) => match &text.target {
@@ -36,25 +36,28 @@ fn missing_in<'s>(style: &Style, element: &'s LayoutRenderingElement) -> Option<
         | LayoutRenderingElement::Date(_) => None,
         LayoutRenderingElement::Names(names) => {
             for child in &names.children {
-                if let Some(name) = missing_in_child(style, child) {
+                if let Some(name) = missing_macro_in_child(style, child) {
                     return Some(name);
                 }
             }
             None
         }
-        LayoutRenderingElement::Choose(choose) => missing_in_choose(style, choose),
-        LayoutRenderingElement::Group(group) => missing_in_all(style, &group.children),
+        LayoutRenderingElement::Choose(choose) => missing_macro_in_choose(style, choose),
+        LayoutRenderingElement::Group(group) => missing_macro_in_all(style, &group.children),
     }
 }
 
 /// The first missing name in a list of elements.
 #[cycle(missing)]
-fn missing_in_all<'s>(style: &Style, elements: &'s [LayoutRenderingElement]) -> Option<&'s str>
+fn missing_macro_in_all<'s>(
+    style: &Style,
+    elements: &'s [LayoutRenderingElement],
+) -> Option<&'s str>
     ensures { option_map (λ name. name.now) result
-        ≡ spec.missing_in_all (definitions style.now.macros) (view_nodes elements.now) }
+        ≡ spec.missing_macro_in_all (definitions style.now.macros) (view_nodes elements.now) }
 {
     for element in elements {
-        if let Some(name) = missing_in(style, element) {
+        if let Some(name) = missing_macro_in(style, element) {
             return Some(name);
         }
     }
@@ -63,32 +66,32 @@ fn missing_in_all<'s>(style: &Style, elements: &'s [LayoutRenderingElement]) -> 
 
 /// The first missing name in a child of names. Only a substitute may have one.
 #[cycle(missing)]
-fn missing_in_child<'s>(style: &Style, child: &'s NamesChild) -> Option<&'s str>
+fn missing_macro_in_child<'s>(style: &Style, child: &'s NamesChild) -> Option<&'s str>
     ensures { option_map (λ name. name.now) result
-        ≡ spec.missing_in_child (definitions style.now.macros) (view_child child.now) }
+        ≡ spec.missing_macro_in_child (definitions style.now.macros) (view_child child.now) }
 {
     match child {
         NamesChild::Name(_) | NamesChild::EtAl(_) | NamesChild::Label(_) => None,
-        NamesChild::Substitute(substitute) => missing_in_all(style, &substitute.children),
+        NamesChild::Substitute(substitute) => missing_macro_in_all(style, &substitute.children),
     }
 }
 
 /// The first missing name in the branches of a choose, then in its `otherwise` nodes.
 #[cycle(missing)]
-fn missing_in_choose<'s>(style: &Style, choose: &'s Choose) -> Option<&'s str>
+fn missing_macro_in_choose<'s>(style: &Style, choose: &'s Choose) -> Option<&'s str>
     ensures { option_map (λ name. name.now) result
-        ≡ spec.missing_in (definitions style.now.macros) (view_choose choose.now) }
+        ≡ spec.missing_macro_in (definitions style.now.macros) (view_choose choose.now) }
 {
-    if let Some(name) = missing_in_all(style, &choose.if_.children) {
+    if let Some(name) = missing_macro_in_all(style, &choose.if_.children) {
         return Some(name);
     }
     for branch in &choose.else_if {
-        if let Some(name) = missing_in_all(style, &branch.children) {
+        if let Some(name) = missing_macro_in_all(style, &branch.children) {
             return Some(name);
         }
     }
     match &choose.otherwise {
-        Some(otherwise) => missing_in_all(style, otherwise),
+        Some(otherwise) => missing_macro_in_all(style, otherwise),
         None => None,
     }
 }
@@ -100,7 +103,7 @@ fn missing_in_macros<'s>(style: &Style, macros: &'s [CslMacro]) -> Option<&'s st
 {
     for (i, m) in macros.iter().enumerate() {
         if style.macro_index(m.name.as_str()) == Some(i) {
-            if let Some(name) = missing_in_all(style, &m.children) {
+            if let Some(name) = missing_macro_in_all(style, &m.children) {
                 return Some(name);
             }
         }
@@ -120,11 +123,11 @@ impl Style {
     pub fn missing_macro(&self) -> Option<&str>
         ensures { option_map (λ name. name.now) result ≡ spec.missing_macro self.now }
     {
-        if let Some(name) = missing_in_all(self, &self.citation().elements) {
+        if let Some(name) = missing_macro_in_all(self, &self.citation().elements) {
             return Some(name);
         }
         if let Some(bibliography) = self.bibliography() {
-            if let Some(name) = missing_in_all(self, &bibliography.elements) {
+            if let Some(name) = missing_macro_in_all(self, &bibliography.elements) {
                 return Some(name);
             }
         }

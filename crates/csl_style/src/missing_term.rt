@@ -252,15 +252,15 @@ fn writes_and(and: Option<NameAnd>, inherited: bool) -> bool
     }
 }
 
-/// The label of names on one side of them: after them if `behind`.
-fn label_on(parts: NamesParts<'_>, behind: bool) -> Option<&VariablelessLabel>
+/// The label of names on one side of them: after them if `after`.
+fn label_on(parts: NamesParts<'_>, after: bool) -> Option<&VariablelessLabel>
     ensures { option_map (λ l. view_label l.now) result
-        ≡ spec.label_on behind (parts_node parts.entry).label }
+        ≡ spec.label_on after (parts_node parts.entry).label }
 {
     match parts.label() {
         None => None,
         Some(placed) => {
-            if placed.is_after == behind {
+            if placed.is_after == after {
                 Some(placed.label)
             } else {
                 None

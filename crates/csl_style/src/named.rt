@@ -40,7 +40,7 @@ fn empty_named(alloc: Global) -> Named
 
 /// Adds a variable, unless the citation answers it.
 #[tactic(auto, using(crate::proofs::Noted::noted_laws))]
-fn note(named: &mut Named, variable: Variable) -> Result<(), Memory>
+fn add_variable(named: &mut Named, variable: Variable) -> Result<(), Memory>
     ensures { OnOk result (Adds (the_variable variable) named.old named.new) }
 {
     if variable.is_of_citation() {
@@ -68,7 +68,7 @@ fn note(named: &mut Named, variable: Variable) -> Result<(), Memory>
 
 /// Adds a kind.
 #[tactic(auto, using(crate::proofs::Noted::kind_noted))]
-fn note_kind(named: &mut Named, kind: Kind) -> Result<(), Memory>
+fn add_kind(named: &mut Named, kind: Kind) -> Result<(), Memory>
     ensures { OnOk result (Adds (the_kind kind) named.old named.new) }
 {
     named.kinds.insert(kind)?;
@@ -84,14 +84,15 @@ fn add_nothing(_named: &mut Named) -> Result<(), Memory>
 }
 
 /// Adds the variables of a test.
-fn note_variables(named: &mut Named, tested: &Option<Vec<Variable>>) -> Result<(), Memory>
+#[tactic(auto, using(crate::proofs::NamedNodes::join_laws))]
+fn add_variables(named: &mut Named, tested: &Option<Vec<Variable>>) -> Result<(), Memory>
     ensures { OnOk result (Adds (each_if the_variable (option_map (λ vs. vs.items) tested.now))
         named.old named.new) }
 {
     match tested {
         Some(variables) => {
             for v in variables {
-                note(named, *v)?;
+                add_variable(named, *v)?;
             }
             Ok(())
         }
@@ -100,14 +101,15 @@ fn note_variables(named: &mut Named, tested: &Option<Vec<Variable>>) -> Result<(
 }
 
 /// Adds the date variables of a test.
-fn note_dates(named: &mut Named, tested: &Option<Vec<DateVariable>>) -> Result<(), Memory>
+#[tactic(auto, using(crate::proofs::NamedNodes::join_laws))]
+fn add_dates(named: &mut Named, tested: &Option<Vec<DateVariable>>) -> Result<(), Memory>
     ensures { OnOk result (Adds (each_if the_date (option_map (λ vs. vs.items) tested.now))
         named.old named.new) }
 {
     match tested {
         Some(dates) => {
             for v in dates {
-                note(named, Variable::Date(*v))?;
+                add_variable(named, Variable::Date(*v))?;
             }
             Ok(())
         }
@@ -116,14 +118,15 @@ fn note_dates(named: &mut Named, tested: &Option<Vec<DateVariable>>) -> Result<(
 }
 
 /// Adds the kinds of a test.
-fn note_kinds(named: &mut Named, tested: &Option<Vec<Kind>>) -> Result<(), Memory>
+#[tactic(auto, using(crate::proofs::NamedNodes::join_laws))]
+fn add_kinds(named: &mut Named, tested: &Option<Vec<Kind>>) -> Result<(), Memory>
     ensures { OnOk result (Adds (each_if the_kind (option_map (λ vs. vs.items) tested.now))
         named.old named.new) }
 {
     match tested {
         Some(kinds) => {
             for kind in kinds {
-                note_kind(named, *kind)?;
+                add_kind(named, *kind)?;
             }
             Ok(())
         }
@@ -132,68 +135,69 @@ fn note_kinds(named: &mut Named, tested: &Option<Vec<Kind>>) -> Result<(), Memor
 }
 
 /// Adds the variable of a number or a label.
-fn note_number_or_page(named: &mut Named, variable: NumberOrPageVariable) -> Result<(), Memory>
+fn add_number_or_page(named: &mut Named, variable: NumberOrPageVariable) -> Result<(), Memory>
     ensures { OnOk result (Adds (the_number_or_page variable) named.old named.new) }
 {
     match variable {
-        NumberOrPageVariable::Number(v) => note(named, Variable::Number(v)),
-        NumberOrPageVariable::Page(v) => note(named, Variable::Page(v)),
+        NumberOrPageVariable::Number(v) => add_variable(named, Variable::Number(v)),
+        NumberOrPageVariable::Page(v) => add_variable(named, Variable::Page(v)),
     }
 }
 
 /// Adds the variables of a names node.
-#[tactic(auto, using(crate::proofs::NamedNodes::names_itself))]
-fn note_names(named: &mut Named, names: &Names) -> Result<(), Memory>
+#[tactic(auto, using(crate::proofs::NamedNodes::names_laws))]
+fn add_names(named: &mut Named, names: &Names) -> Result<(), Memory>
     ensures { OnOk result (Adds (named_itself (view_names names.now)) named.old named.new) }
 {
     for v in &names.variable {
-        note(named, Variable::Name(*v))?;
+        add_variable(named, Variable::Name(*v))?;
     }
     Ok(())
 }
 
 /// Adds the variables and kinds that a branch tests.
-fn note_tests(named: &mut Named, branch: &ChooseBranch) -> Result<(), Memory>
+fn add_tests(named: &mut Named, branch: &ChooseBranch) -> Result<(), Memory>
     ensures { OnOk result (Adds (named_in_tests_of branch.now) named.old named.new) }
 {
-    note_variables(named, &branch.is_numeric)?;
-    note_dates(named, &branch.is_uncertain_date)?;
-    note_kinds(named, &branch.type_)?;
-    note_variables(named, &branch.variable)?;
+    add_variables(named, &branch.is_numeric)?;
+    add_dates(named, &branch.is_uncertain_date)?;
+    add_kinds(named, &branch.type_)?;
+    add_variables(named, &branch.variable)?;
     Ok(())
 }
 
 /// Adds the variables and kinds that the branches of a choice test.
-fn note_choose(named: &mut Named, choose: &Choose) -> Result<(), Memory>
+#[tactic(auto, using(crate::proofs::NamedNodes::choose_laws))]
+fn add_choose(named: &mut Named, choose: &Choose) -> Result<(), Memory>
     ensures { OnOk result (Adds (named_itself (view_choose choose.now)) named.old named.new) }
 {
-    note_tests(named, &choose.if_)?;
+    add_tests(named, &choose.if_)?;
     for branch in &choose.else_if {
-        note_tests(named, branch)?;
+        add_tests(named, branch)?;
     }
     Ok(())
 }
 
 /// Adds the variables and kinds that a node names itself. The nodes inside it do not count, nor do
 /// those of the macro that it calls.
-fn note_node(named: &mut Named, node: &LayoutRenderingElement) -> Result<(), Memory>
+fn add_node(named: &mut Named, node: &LayoutRenderingElement) -> Result<(), Memory>
     ensures { OnOk result (Adds (named_itself (view_node node.now)) named.old named.new) }
 {
     match node {
         LayoutRenderingElement::Text(text) => match &text.target {
-            TextTarget::Variable { var, .. } => note(named, *var),
+            TextTarget::Variable { var, .. } => add_variable(named, *var),
             TextTarget::Macro { .. } | TextTarget::Term { .. } | TextTarget::Value { .. } => {
                 add_nothing(named)
             }
         },
-        LayoutRenderingElement::Number(number) => note_number_or_page(named, number.variable),
-        LayoutRenderingElement::Label(label) => note_number_or_page(named, label.variable),
+        LayoutRenderingElement::Number(number) => add_number_or_page(named, number.variable),
+        LayoutRenderingElement::Label(label) => add_number_or_page(named, label.variable),
         LayoutRenderingElement::Date(date) => match date.variable {
-            Some(v) => note(named, Variable::Date(v)),
+            Some(v) => add_variable(named, Variable::Date(v)),
             None => add_nothing(named),
         },
-        LayoutRenderingElement::Names(names) => note_names(named, names),
-        LayoutRenderingElement::Choose(choose) => note_choose(named, choose),
+        LayoutRenderingElement::Names(names) => add_names(named, names),
+        LayoutRenderingElement::Choose(choose) => add_choose(named, choose),
         LayoutRenderingElement::Group(_) => add_nothing(named),
     }
 }
@@ -233,7 +237,7 @@ pub fn named_by(alloc: Global, style: &Style, layout: &Layout) -> Result<Named, 
     let mut seen = vec![in alloc; false; style.macros().len()]?;
     let mut left = NodesLeft::new(alloc, &layout.elements)?;
     while let Some(node) = left.next()? {
-        note_node(&mut named, node)?;
+        add_node(&mut named, node)?;
         if let Some(found) = unmarked_macro(style, &mut seen, node) {
             left.push(&found.children)?;
         }

@@ -37,8 +37,8 @@ loop-left-preserved-in-Continue-branch-6 c =
     let body = view_nodes c.in-Some-unmarked_macro.found.now.children.items in
     let taken : before ≡ node ∷ rest = search rules in
     let pushed : more ≡ all_nodes body ++ rest = rw c.deref-in-Some-unmarked_macro.ensures.value at c.in_ok-push.ensures in
-    entered_at (definitions c.args.style.now.macros) (view_nodes c.args.layout.now.elements.items) (named_set c.loop-left.named) (named_set c.note_node.new.named) c.loop-left.seen.items c.unmarked_macro.new.seen.items before node rest more body
-    c.loop-left.invariant taken c.in_ok-note_node.ensures c.in-Some-unmarked_macro.ensures.first pushed
+    entered_at (definitions c.args.style.now.macros) (view_nodes c.args.layout.now.elements.items) (named_set c.loop-left.named) (named_set c.add_node.new.named) c.loop-left.seen.items c.unmarked_macro.new.seen.items before node rest more body
+    c.loop-left.invariant taken c.in_ok-add_node.ensures c.in-Some-unmarked_macro.ensures.first pushed
 
 pub loop-left-preserved : goal.loop-left-preserved
 loop-left-preserved c =
@@ -47,8 +47,8 @@ loop-left-preserved c =
     let node = view_node c.in-Some.node.now in
     let taken : before ≡ node ∷ rest = search rules in
     let none : c.unmarked_macro.result ≡ None = search rules in
-    passed_at (definitions c.args.style.now.macros) (view_nodes c.args.layout.now.elements.items) (named_set c.loop-left.named) (named_set c.note_node.new.named) c.loop-left.seen.items c.unmarked_macro.new.seen.items before node rest
-    c.loop-left.invariant taken c.in_ok-note_node.ensures (c.unmarked_macro.ensures.known none) (c.unmarked_macro.ensures.unchanged none)
+    passed_at (definitions c.args.style.now.macros) (view_nodes c.args.layout.now.elements.items) (named_set c.loop-left.named) (named_set c.add_node.new.named) c.loop-left.seen.items c.unmarked_macro.new.seen.items before node rest
+    c.loop-left.invariant taken c.in_ok-add_node.ensures (c.unmarked_macro.ensures.known none) (c.unmarked_macro.ensures.unchanged none)
 
 pub returns : goal.returns
 returns c =

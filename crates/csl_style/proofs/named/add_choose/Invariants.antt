@@ -3,7 +3,7 @@ use Rattle.csl_elements.specs.NamedSet.{named_union, named_set}
 use Rattle.csl_elements.specs.View.{view_choose}
 use Rattle.csl_style.specs.Named.{each_of}
 use Rattle.csl_style.specs.NamedWalk.{named_itself, named_in_tests_of}
-use Rattle.csl_style.proofs.named.note_choose.Given as goal
+use Rattle.csl_style.proofs.named.add_choose.Given as goal
 
 -- the items named so far and those in the tests of the remaining branches are all the items
 abbrev pub invariant-loop-branch : goal.invariant-loop-branch
