@@ -1,18 +1,19 @@
 -- A walk through all nodes of a list: what is left of it, and what its nodes tell by themselves, which
 -- is together what the list tells.
-use Rattle.std.proofs.Common.{◌≡◌, ℕ, zero, suc, ◌+◌, ◌<◌, ◌≤◌, Bool, true, false, ◌||◌, List, [], ◌∷◌, ◌++◌, length, map, drop, get_or, Option, Some, None, option_map, Vec, Global, refl, sym, ap, ap₂, ◌∙◌, arith, append_assoc, append-nil}
+use Rattle.std.proofs.Common.{◌≡◌, ℕ, zero, suc, ◌+◌, ◌<◌, ◌≤◌, Bool, false, ◌||◌, List, [], ◌∷◌, ◌++◌, length, map, drop, get_or, Option, Some, None, option_map, Vec, Global, refl, sym, ap, ap₂, ◌∙◌, arith, append_assoc, append-nil}
 use Rattle.std.specs.Prelude.{flat_map}
+use Rattle.std.proofs.Math.Bool.{or_assoc, or-false}
 use Rattle.std.proofs.lemmas.Grind.{flat_map-append}
 use denote.Bor.{Bor}
-use Rattle.csl_elements.specs.Node.{Node, text, call, number, label, date, names, choose, group, Nodes, no_nodes, node, Branches, no_branches, otherwise, branch, Substitutes, no_substitutes, substitute, ExpandedNodes, expand, expand_call, expand_nodes, expand_branches, size, sizes, expanded_branches_size}
+use Rattle.csl_elements.specs.Node.{Node, text, call, names, choose, group, Nodes, no_nodes, node, Branches, no_branches, otherwise, branch, Substitutes, no_substitutes, substitute, ExpandedNodes, expand, expand_call, expand_nodes, expand_branches, size, sizes, expanded_branches_size}
 use Rattle.csl_elements.specs.Dressing.{TextDressing}
-use Rattle.csl_elements.specs.View.{Definition, view_node, view_nodes, view_choose, view_branch, view_child, view_names, branches_of, substitutes, NamesChildView, a_name, an_et_al, a_label, a_substitute, BranchView, element_step, child_step, choose_step, branch_step, group_step, names_step, substitute_step}
+use Rattle.csl_elements.specs.View.{Definition, view_node, view_nodes, view_choose, view_branch, view_child, view_names, branches_of, substitutes, NamesChildView, a_substitute}
 use Rattle.csl_elements.specs.declared.element.LayoutRenderingElement.{LayoutRenderingElement}
-use Rattle.csl_elements.specs.declared.element.LayoutRenderingElement.TheFolds.{fold_out-Names}
 use Rattle.csl_elements.specs.declared.element.Choose.{Choose, out-Choose}
 use Rattle.csl_elements.specs.declared.element.ChooseBranch.{ChooseBranch, out-ChooseBranch}
-use Rattle.csl_elements.specs.declared.element.Names.{Names as NamesElement, out-Names}
+use Rattle.csl_elements.specs.declared.element.Names.{Names, out-Names}
 use Rattle.csl_elements.specs.declared.element.NamesChild.{NamesChild}
+use Rattle.csl_elements.proofs.Rolled.{names_view}
 use Rattle.csl_style.specs.AllNodes.{all_nodes, nodes_inside, nodes_in_branches, nodes_in_substitutes, nodes_in_child, nodes_left, called_name, is_suffix_text}
 use Rattle.csl_style.specs.CallGraph.{calls_in, calls_in_all, calls_in_branches, calls_in_substitutes, own_calls}
 use Rattle.csl_style.specs.YearSuffix.{has_year_suffix, any_has_year_suffix, branches_have_year_suffix, macro_has_year_suffix}
@@ -71,10 +72,8 @@ abbrev pub children_from : List NamesChild → ℕ → List Node
 children_from cs i = nodes_in_substitutes (substitutes (map view_child (drop i cs)))
 
 one_child : (c : NamesChildView) (cs : List NamesChildView) → nodes_in_substitutes (substitutes (c ∷ cs)) ≡ nodes_in_child c ++ nodes_in_substitutes (substitutes cs)
-one_child (a_name n) cs = refl
-one_child (an_et_al e) cs = refl
-one_child (a_label l) cs = refl
 one_child (a_substitute ns) cs = refl
+one_child other cs = refl
 
 child_step' : (cs : List NamesChild) (i : ℕ) (c : NamesChild) → i < length cs → c ≡ get_or cs i c → children_from cs i ≡ nodes_in_child (view_child c) ++ children_from cs (suc i)
 child_step' [] i c less is = absurd (omega arith)
@@ -88,8 +87,8 @@ pub no_child_left : (cs : List NamesChild) → children_from cs (length cs) ≡ 
 no_child_left [] = refl
 no_child_left (x ∷ cs) = no_child_left cs
 
-pub names_inside : (x : NamesElement) → nodes_inside (view_names x) ≡ children_from (out-Names x).children.items 0
-names_inside x = rw (fold_out-Names Node NamesChildView Node BranchView Node Node Nodes element_step child_step choose_step branch_step group_step names_step substitute_step x) refl
+pub names_inside : (x : Names) → nodes_inside (view_names x) ≡ children_from (out-Names x).children.items 0
+names_inside x = ap nodes_inside (names_view x)
 
 -- ---- the calls of macros
 
@@ -109,14 +108,11 @@ module _ (ds : List Definition) where
         ∙ ap₂ (λ a b. a ++ b) (node_calls n) (all_calls ns)
 
     node_calls : (n : Node) → own_calls ds (called_name n) ++ calls_of (nodes_inside n) ≡ calls_in ds n
-    node_calls (text t d) = refl
     node_calls (call name d) = append-nil (own_calls ds (Some name))
-    node_calls (number n) = refl
-    node_calls (label v l) = refl
-    node_calls (date d) = refl
     node_calls (names n ss) = substitute_calls ss
     node_calls (choose bs) = branch_calls bs
     node_calls (group delimiter d ns) = all_calls ns
+    node_calls other = refl
 
     branch_calls : (bs : Branches) → calls_of (nodes_in_branches bs) ≡ calls_in_branches ds bs
     branch_calls no_branches = refl
@@ -128,14 +124,6 @@ module _ (ds : List Definition) where
     substitute_calls (substitute ns ss) = calls_join (all_nodes ns) (nodes_in_substitutes ss) ∙ ap₂ (λ a b. a ++ b) (all_calls ns) (substitute_calls ss)
 
 -- ---- texts of the year suffix
-
-or_assoc : (a b c : Bool) → (a || (b || c)) ≡ ((a || b) || c)
-or_assoc true b c = refl
-or_assoc false b c = refl
-
-or_none : (b : Bool) → (b || false) ≡ b
-or_none true = refl
-or_none false = refl
 
 module _ (env : List ℕ → Option ExpandedNodes) where
   abbrev pub called_has : Option (List ℕ) → Bool
@@ -152,29 +140,27 @@ module _ (env : List ℕ → Option ExpandedNodes) where
 
   pub own_append : (xs ys : List Node) → any_own (xs ++ ys) ≡ (any_own xs || any_own ys)
   own_append [] ys = refl
-  own_append (x ∷ xs) ys = ap (λ b. own_has x || b) (own_append xs ys) ∙ or_assoc (own_has x) (any_own xs) (any_own ys)
+  own_append (x ∷ xs) ys = ap (λ b. own_has x || b) (own_append xs ys) ∙ sym (or_assoc (own_has x) (any_own xs) (any_own ys))
 
   by_call : (d : TextDressing) (o : Option ExpandedNodes) → ((false || macro_has_year_suffix o) || false) ≡ has_year_suffix (expand_call d o)
   by_call d None = refl
-  by_call d (Some fs) = or_none (any_has_year_suffix fs)
+  by_call d (Some fs) = or-false (any_has_year_suffix fs)
 
   mutual
     pub all_has : (ns : Nodes) → any_own (all_nodes ns) ≡ any_has_year_suffix (expand_nodes env ns)
     all_has no_nodes = refl
     all_has (node n ns) =
         ap (λ b. own_has n || b) (own_append (nodes_inside n) (all_nodes ns))
-        ∙ or_assoc (own_has n) (any_own (nodes_inside n)) (any_own (all_nodes ns))
+        ∙ sym (or_assoc (own_has n) (any_own (nodes_inside n)) (any_own (all_nodes ns)))
         ∙ ap₂ (λ a b. a || b) (node_has n) (all_has ns)
 
     node_has : (n : Node) → (own_has n || any_own (nodes_inside n)) ≡ has_year_suffix (expand env n)
-    node_has (text t d) = or_none (is_suffix_text (text t d) || false) ∙ or_none (is_suffix_text (text t d))
+    node_has (text t d) = or-false (is_suffix_text (text t d) || false) ∙ or-false (is_suffix_text (text t d))
     node_has (call name d) = by_call d (env name)
-    node_has (number n) = refl
-    node_has (label v l) = refl
-    node_has (date d) = refl
     node_has (names n ss) = substitute_has ss ∙ sym (insteads_same env n ss)
     node_has (choose bs) = branch_has bs
     node_has (group delimiter d ns) = all_has ns
+    node_has other = refl
 
     branch_has : (bs : Branches) → any_own (nodes_in_branches bs) ≡ branches_have_year_suffix (expand_branches env bs)
     branch_has no_branches = refl
@@ -216,14 +202,11 @@ module _ (env : List ℕ → Option ExpandedNodes) where
     all_cost (node n ns) = omega (arith, costs_append (nodes_inside n) (all_nodes ns), node_cost n, all_cost ns)
 
     node_cost : (n : Node) → own_cost n + costs (nodes_inside n) ≤ suc (size (expand env n))
-    node_cost (text t d) = omega arith
     node_cost (call name d) = by_call_cost d (env name)
-    node_cost (number n) = omega arith
-    node_cost (label v l) = omega arith
-    node_cost (date d) = omega arith
     node_cost (names n ss) = omega (arith, substitute_cost ss, insteads_sized env n ss)
     node_cost (choose bs) = omega (arith, branch_cost bs)
     node_cost (group delimiter d ns) = omega (arith, all_cost ns)
+    node_cost other = omega arith
 
     branch_cost : (bs : Branches) → costs (nodes_in_branches bs) ≤ expanded_branches_size (expand_branches env bs)
     branch_cost no_branches = omega arith

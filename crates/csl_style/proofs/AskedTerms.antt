@@ -3,6 +3,8 @@
 use Rattle.std.proofs.Common.{◌≡◌, ℕ, ◌+◌, ◌<◌, ◌≤◌, List, [], ◌∷◌, ◌++◌, length, get_or, slice_get, drop, subst, Bool, true, false, cond, Option, Some, None, filter, find, IfSome, Vec, Global, refl, sym, ap, ◌∙◌, arith, option_map, if◌then◌else◌, Result, Ok, Err, IfOk}
 use Rattle.std.proofs.lemmas.Grind.{fold-append}
 use Rattle.std.proofs.lemmas.List.{drop_more, drop_all}
+use Rattle.std.proofs.lemmas.List.Elements.{filter-append}
+use Rattle.std.proofs.lemmas.List.Folds.{find-append}
 use Rattle.std.specs.List.{fold}
 use Rattle.std.specs.Option.{option_or}
 use Rattle.csl_elements.specs.declared.element.Choose.{Choose, out-Choose}
@@ -11,7 +13,7 @@ use Rattle.csl_elements.specs.declared.element.Names.{Names}
 use Rattle.csl_elements.specs.declared.locale.Locale.{Locale}
 use Rattle.csl_elements.specs.Names.{NamesNode}
 use Rattle.csl_elements.specs.NamesParts.{names_node, names_substitutes}
-use Rattle.csl_elements.specs.Node.{Nodes, ExpandedNodes, expand, expand_nodes, expand_branches, expand_substitutes}
+use Rattle.csl_elements.specs.Node.{ExpandedNodes, expand, expand_nodes, expand_branches, expand_substitutes}
 use Rattle.csl_elements.specs.View.{NamesChildView, a_substitute, view_names, view_nodes, view_choose, substitutes}
 use Rattle.csl_elements.proofs.Rolled.{names_view}
 use Rattle.csl_style.specs.declared.missing_term.TermScope.{TermScope}
@@ -36,23 +38,6 @@ module _ (ls : List Locale) (a : TermScope) (env : List ℕ → Option ExpandedN
 
 -- ---- the first and all missing terms of two lists
 
-module _ {X : Type 0} (test : X → Bool) where
-  kept_before : (b : Bool) (x : X) (xs ys zs : List X) → zs ≡ xs ++ ys → cond b (x ∷ zs) zs ≡ cond b (x ∷ xs) xs ++ ys
-  kept_before true x xs ys zs e = ap (λ ws. x ∷ ws) e
-  kept_before false x xs ys zs e = e
-
-  filter_both : (xs ys : List X) → filter test (xs ++ ys) ≡ filter test xs ++ filter test ys
-  filter_both [] ys = refl
-  filter_both (x ∷ xs) ys = kept_before (test x) x (filter test xs) (filter test ys) (filter test (xs ++ ys)) (filter_both xs ys)
-
-  found_before : (b : Bool) (x : X) (o p q : Option X) → q ≡ option_or o p → cond b (Some x) q ≡ option_or (cond b (Some x) o) p
-  found_before true x o p q e = refl
-  found_before false x o p q e = e
-
-  find_both : (xs ys : List X) → find test (xs ++ ys) ≡ option_or (find test xs) (find test ys)
-  find_both [] ys = refl
-  find_both (x ∷ xs) ys = found_before (test x) x (find test xs) (find test ys) (find test (xs ++ ys)) (find_both xs ys)
-
 or_assoc : {X : Type 0} (a b c : Option X) → option_or (option_or a b) c ≡ option_or a (option_or b c)
 or_assoc None b c = refl
 or_assoc (Some x) b c = refl
@@ -64,7 +49,7 @@ or_none (Some x) = refl
 -- ---- what is found after two lists
 
 both_lists : (ls : List Locale) (a b ts : List AskedTerm) → with_missing ls (a ++ b) ts ≡ with_missing ls b (with_missing ls a ts)
-both_lists ls a b ts = ap (fold with_asked ts) (filter_both (is_missing ls) a b) ∙ fold-append with_asked ts (filter (is_missing ls) a) (filter (is_missing ls) b)
+both_lists ls a b ts = ap (fold with_asked ts) (filter-append (is_missing ls) a b) ∙ fold-append with_asked ts (filter (is_missing ls) a) (filter (is_missing ls) b)
 
 module _ (f g h : List AskedTerm → List AskedTerm) (joined : (ts : List AskedTerm) → h ts ≡ g (f ts)) where
   all_both : (x y z : Option (Vec AskedTerm Global)) → IfSome y (λ now. Some now.items ≡ option_map (λ v. f v.items) x) → IfSome z (λ now. Some now.items ≡ option_map (λ v. g v.items) y)
@@ -76,7 +61,7 @@ module _ (f g h : List AskedTerm → List AskedTerm) (joined : (ts : List AskedT
 
 pub finds_both : (ls : List Locale) (a b : List AskedTerm) (x y z : Found) → Finds ls a x y → Finds ls b y z → Finds ls (a ++ b) x z
 finds_both ls a b x y z p q = record {
-  first = q.first ∙ ap (λ o. option_or o (find (is_missing ls) b)) p.first ∙ or_assoc x.first (find (is_missing ls) a) (find (is_missing ls) b) ∙ ap (option_or x.first) (sym (find_both (is_missing ls) a b));
+  first = q.first ∙ ap (λ o. option_or o (find (is_missing ls) b)) p.first ∙ or_assoc x.first (find (is_missing ls) a) (find (is_missing ls) b) ∙ ap (option_or x.first) (sym (find-append (is_missing ls) a b));
   all = all_both (with_missing ls a) (with_missing ls b) (with_missing ls (a ++ b)) (both_lists ls a b) x.all y.all z.all p.all q.all;
 }
 

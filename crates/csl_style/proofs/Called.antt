@@ -6,7 +6,7 @@ use Rattle.std.proofs.lemmas.Bool.Decides.{nat_tests}
 use Rattle.std.proofs.lemmas.Slice.Eq.{bytes_eq-Decides}
 use Rattle.std.proofs.lemmas.List.Elements.{Contains-get_or, Contains-append_left, Contains-append_right, Contains-append_cases}
 use Rattle.csl_style.specs.Cycles.{Graph, InRange, row_at}
-use Rattle.csl_elements.specs.Node.{Node, text, call, number, label, date, names, choose, group, Nodes, no_nodes, node, Branches, no_branches, otherwise, branch, Substitutes, no_substitutes, substitute}
+use Rattle.csl_elements.specs.Node.{Node, call, names, choose, group, Nodes, no_nodes, node, Branches, no_branches, otherwise, branch, Substitutes, no_substitutes, substitute}
 use Rattle.csl_elements.specs.View.{Definition, definitions, view_nodes}
 use Rattle.csl_style.specs.Expansion.{macro_index, macro_body, is_below, calls_below, all_below, branches_below, substitutes_below}
 use Rattle.csl_style.specs.MacroCalls.{Calls, OneCalls, BranchCalls, SubstituteCalls}
@@ -48,14 +48,11 @@ to-option o q h = rw h (0, omega arith, refl)
 module _ (ds : List Definition) where
   mutual
     node-from : (q : ℕ) (n : Node) → Contains (calls_in ds n) q → (name : List ℕ) × Calls name n × (macro_index name ds ≡ Some q)
-    node-from q (text t d) h = absurd (nothing q h)
     node-from q (call name d) h = (name, refl, from-option (macro_index name ds) q h)
-    node-from q (number n) h = absurd (nothing q h)
-    node-from q (label v l) h = absurd (nothing q h)
-    node-from q (date d) h = absurd (nothing q h)
     node-from q (names n ss) h = substitutes-from q ss h
     node-from q (choose bs) h = branches-from q bs h
     node-from q (group delimiter d ns) h = all-from q ns h
+    node-from q other h = absurd (nothing q h)
 
     pub all-from : (q : ℕ) (ns : Nodes) → Contains (calls_in_all ds ns) q → (name : List ℕ) × OneCalls name ns × (macro_index name ds ≡ Some q)
     all-from q no_nodes h = absurd (nothing q h)
@@ -82,14 +79,11 @@ module _ (ds : List Definition) where
   module _ (name : List ℕ) (q : ℕ) (p : macro_index name ds ≡ Some q) where
     mutual
       node-into : (n : Node) → Calls name n → Contains (calls_in ds n) q
-      node-into (text t d) c = absurd c
       node-into (call other d) c = to-option (macro_index other ds) q (subst (λ x. macro_index x ds ≡ Some q) c p)
-      node-into (number n) c = absurd c
-      node-into (label v l) c = absurd c
-      node-into (date d) c = absurd c
       node-into (names n ss) c = substitutes-into ss c
       node-into (choose bs) c = branches-into bs c
       node-into (group delimiter d ns) c = all-into ns c
+      node-into other c = absurd c
 
       pub all-into : (ns : Nodes) → OneCalls name ns → Contains (calls_in_all ds ns) q
       all-into no_nodes c = absurd c
@@ -111,14 +105,11 @@ module _ (ds : List Definition) where
 module _ (rank : List ℕ → Option ℕ) (r : ℕ) where
   mutual
     calls-below-by : (n : Node) → ((name : List ℕ) → Calls name n → is_below (rank name) r ≡ true) → calls_below rank r n ≡ true
-    calls-below-by (text t d) h = refl
     calls-below-by (call name d) h = h name refl
-    calls-below-by (number n) h = refl
-    calls-below-by (label v l) h = refl
-    calls-below-by (date d) h = refl
     calls-below-by (names n ss) h = substitutes-below-by ss h
     calls-below-by (choose bs) h = branches-below-by bs h
     calls-below-by (group delimiter d ns) h = all-below-by ns h
+    calls-below-by other h = refl
 
     pub all-below-by : (ns : Nodes) → ((name : List ℕ) → OneCalls name ns → is_below (rank name) r ≡ true) → all_below rank r ns ≡ true
     all-below-by no_nodes h = refl

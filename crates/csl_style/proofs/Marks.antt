@@ -23,10 +23,6 @@ none-marked zero q = refl
 none-marked (suc n) zero = refl
 none-marked (suc n) (suc q) = none-marked n q
 
-pub none-length : (n : ℕ) → length (replicate n false) ≡ n
-none-length zero = refl
-none-length (suc n) = ap suc (none-length n)
-
 -- ---- one more place is marked
 
 pub marks-set : (ys : List Bool) (q : ℕ) → q < length ys → is_marked ys q ≡ false → marks (set ys q true) ≡ suc (marks ys)

@@ -1,8 +1,9 @@
 -- In an acyclic style, a name stands for the nodes of the first macro of that name.
-use Rattle.std.proofs.Common.{◌≡◌, ℕ, zero, suc, ◌≤◌, List, [], ◌∷◌, length, slice_index, Option, Some, None, option_map, Bool, true, false, if◌then◌else◌, refl, sym, ap, ap₂, ◌∙◌, ◌&&◌, arith}
+use Rattle.std.proofs.Common.{◌≡◌, ℕ, zero, suc, ◌≤◌, List, [], ◌∷◌, length, slice_index, Option, Some, None, option_map, Bool, true, false, if◌then◌else◌, refl, sym, ap, ap₂, ◌∙◌, arith}
+use Rattle.std.proofs.lemmas.Bool.{and_parts}
 use Rattle.std.proofs.lemmas.Bool.Decides.{nat_tests}
 use Rattle.std.specs.Str.{bytes_eq}
-use Rattle.csl_elements.specs.Node.{Node, text, call, number, label, date, names, choose, group, Nodes, no_nodes, node, Branches, no_branches, otherwise, branch, Substitutes, no_substitutes, substitute, ExpandedNodes, expanded_node, expanded_names, expanded_choose, expanded_group, expanded_otherwise, expanded_branch, expanded_substitute, expand, expand_nodes, expand_branches, expand_substitutes, expand_substitute_nodes, expand_call, as_substitute_child}
+use Rattle.csl_elements.specs.Node.{Node, call, names, choose, group, Nodes, no_nodes, node, Branches, no_branches, otherwise, branch, Substitutes, no_substitutes, substitute, ExpandedNodes, expanded_node, expanded_names, expanded_choose, expanded_group, expanded_otherwise, expanded_branch, expanded_substitute, expand, expand_nodes, expand_branches, expand_substitutes, expand_substitute_nodes, expand_call, as_substitute_child}
 use Rattle.csl_elements.specs.Names.{NamesNode}
 use Rattle.csl_elements.specs.View.{Definition}
 use Rattle.csl_style.specs.Expansion.{macro_index, macro_body, expansion_to_depth, macro_expansion, rank_of, is_below, calls_below, all_below, branches_below, substitutes_below, body_below, AreRanks, IsAcyclic}
@@ -11,45 +12,38 @@ use Rattle.csl_style.specs.Expansion.{macro_index, macro_body, expansion_to_dept
 abbrev Agree : (List ℕ → Option ℕ) → ℕ → (e f : List ℕ → Option ExpandedNodes) → Type 0
 Agree rank r e f = (name : List ℕ) → is_below (rank name) r ≡ true → e name ≡ f name
 
-pub both : (a b : Bool) → (a && b) ≡ true → (a ≡ true) × (b ≡ true)
-both true b h = (refl, h)
-both false b h = grind arith
-
 module _ (rank : List ℕ → Option ℕ) (r : ℕ) (e f : List ℕ → Option ExpandedNodes) (same : Agree rank r e f) where
   mutual
     fill-agree : (n : Node) → calls_below rank r n ≡ true → expand e n ≡ expand f n
-    fill-agree (text t d) h = refl
     fill-agree (call name d) h = ap (expand_call d) (same name h)
-    fill-agree (number n) h = refl
-    fill-agree (label v l) h = refl
-    fill-agree (date d) h = refl
     fill-agree (names n ss) h = ap (expanded_names n) (substitutes-agree n ss h)
     fill-agree (choose bs) h = ap expanded_choose (branches-agree bs h)
     fill-agree (group delimiter d ns) h = ap (expanded_group delimiter d) (fills-agree ns h)
+    fill-agree other h = refl
 
     fills-agree : (ns : Nodes) → all_below rank r ns ≡ true → expand_nodes e ns ≡ expand_nodes f ns
     fills-agree no_nodes h = refl
     fills-agree (node n ns) h =
-        let (h0, h1) = both (calls_below rank r n) (all_below rank r ns) h in
+        let (h0, h1) = and_parts (calls_below rank r n) (all_below rank r ns) h in
         ap₂ expanded_node (fill-agree n h0) (fills-agree ns h1)
 
     branches-agree : (bs : Branches) → branches_below rank r bs ≡ true → expand_branches e bs ≡ expand_branches f bs
     branches-agree no_branches h = refl
     branches-agree (otherwise ns) h = ap expanded_otherwise (fills-agree ns h)
     branches-agree (branch ts ns bs) h =
-        let (h0, h1) = both (all_below rank r ns) (branches_below rank r bs) h in
+        let (h0, h1) = and_parts (all_below rank r ns) (branches_below rank r bs) h in
         ap₂ (expanded_branch ts) (fills-agree ns h0) (branches-agree bs h1)
 
     substitutes-agree : (original : NamesNode) (ss : Substitutes) → substitutes_below rank r ss ≡ true → expand_substitutes e original ss ≡ expand_substitutes f original ss
     substitutes-agree original no_substitutes h = refl
     substitutes-agree original (substitute ns ss) h =
-        let (h0, h1) = both (all_below rank r ns) (substitutes_below rank r ss) h in
+        let (h0, h1) = and_parts (all_below rank r ns) (substitutes_below rank r ss) h in
         ap₂ expanded_substitute (within-agree original ns h0) (substitutes-agree original ss h1)
 
     within-agree : (original : NamesNode) (ns : Nodes) → all_below rank r ns ≡ true → expand_substitute_nodes e original ns ≡ expand_substitute_nodes f original ns
     within-agree original no_nodes h = refl
     within-agree original (node n ns) h =
-        let (h0, h1) = both (calls_below rank r n) (all_below rank r ns) h in
+        let (h0, h1) = and_parts (calls_below rank r n) (all_below rank r ns) h in
         ap₂ expanded_node (ap (as_substitute_child original n) (fill-agree n h0)) (within-agree original ns h1)
 
 body-agree : (rank : List ℕ → Option ℕ) (r : ℕ) (e f : List ℕ → Option ExpandedNodes) → Agree rank r e f → (o : Option Nodes) → body_below rank r o ≡ true → option_map (expand_nodes e) o ≡ option_map (expand_nodes f) o

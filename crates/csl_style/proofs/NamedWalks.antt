@@ -1,8 +1,9 @@
 -- A walk through all nodes of a layout, and of each macro where it is first called, names exactly what
 -- the layout names with all macros expanded.
-use Rattle.std.proofs.Common.{◌≡◌, ℕ, zero, suc, ◌<◌, List, [], ◌∷◌, ◌++◌, length, set, replicate, Bool, true, false, ◌||◌, Option, Some, None, option_map, IfSome, Contains, ◌⊎◌, inl, inr, refl, sym, ap, ◌∙◌, subst, arith, length-set, get_or-set_same}
+use Rattle.std.proofs.Common.{◌≡◌, ℕ, zero, suc, ◌<◌, List, [], ◌∷◌, ◌++◌, length, set, replicate, Bool, true, false, Option, Some, None, option_map, IfSome, Contains, ◌⊎◌, inl, inr, refl, sym, ap, ◌∙◌, subst, arith, length-set, get_or-set_same}
 use Rattle.std.specs.Option.{option_to_list}
-use Rattle.std.proofs.lemmas.Bool.{false≢true}
+use Rattle.std.proofs.lemmas.Bool.{false≢true, or_cases, or_left, or_right}
+use Rattle.std.proofs.lemmas.List.{length-replicate}
 use Rattle.std.proofs.lemmas.List.Elements.{Contains-append_left, Contains-append_right}
 use denote.Bor.{Bor}
 use Rattle.csl_elements.specs.NamedSet.{NamedItem, NamedSet, empty_named_set, named_union}
@@ -17,7 +18,7 @@ use Rattle.csl_style.specs.Named.{named_in_nodes, named_in_macro}
 use Rattle.csl_style.specs.NamedWalk.{named_itself, called_nodes, AreMarked, IsCall, IsFirstCall}
 use Rattle.csl_style.proofs.AllNodesLaws.{called_cost, expansion_cost, costs, costs_append, all_cost}
 use Rattle.csl_style.proofs.Called.{place-is}
-use Rattle.csl_style.proofs.Marks.{none-marked, none-length, marked-before, still-marked}
+use Rattle.csl_style.proofs.Marks.{none-marked, marked-before, still-marked}
 use Rattle.csl_style.proofs.Meanings.{body-none}
 use Rattle.csl_style.proofs.NamedNodes.{own_named, all_named, named_append, list_named}
 
@@ -25,17 +26,6 @@ use Rattle.csl_style.proofs.NamedNodes.{own_named, all_named, named_append, list
 
 abbrev pub Within : NamedSet → NamedSet → Type 0
 Within a b = (q : NamedItem) → a q ≡ true → b q ≡ true
-
-or_left : (x y : Bool) → x ≡ true → (x || y) ≡ true
-or_left x y h = rw h refl
-
-or_right : (x y : Bool) → y ≡ true → (x || y) ≡ true
-or_right true y h = refl
-or_right false y h = h
-
-or_cases : (x y : Bool) → (x || y) ≡ true → (x ≡ true) ⊎ (y ≡ true)
-or_cases true y h = inl refl
-or_cases false y h = inr h
 
 in_left : (a b : NamedSet) → Within a (named_union a b)
 unfolding named_union
@@ -102,7 +92,7 @@ module _ (ds : List Definition) (ns : Nodes) where
 
   pub start : IsWalk ds ns empty_named_set (replicate (length ds) false) (all_nodes ns)
   start = record {
-    each = none-length (length ds);
+    each = length-replicate (length ds) false;
     sound = never_named;
     rest = λ q h. subst (λ (s : NamedSet). s q ≡ true) (list_named (macro_expansion ds) ns) h;
     layout = λ n h. inl h;

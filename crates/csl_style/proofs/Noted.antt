@@ -1,5 +1,6 @@
 -- The items of a set after an insertion.
 use Rattle.std.proofs.Common.{◌≡◌, Bool, true, false, refl, sym, ap, ◌∙◌, cond}
+use Rattle.std.proofs.Math.Bool.{and-false}
 use Rattle.std.specs.Prelude.{◌||◌, ◌&&◌, not}
 use Rattle.std.specs.BTreeSet.{BTreeSet, Updates, contains, IsEmpty}
 use Rattle.std.specs.List.{list_any}
@@ -36,14 +37,10 @@ added_if true false e h = sym h
 added_if false true e h = refl
 added_if false false e h = refl
 
-and_false : (p : Bool) → (p && false) ≡ false
-and_false true = refl
-and_false false = refl
-
 -- a variable of the citation adds nothing
 not_noted_at : (v : Variable) → is_of_citation v ≡ true → (q : NamedItem) → the_variable v q ≡ false
 unfolding the_variable
-not_noted_at v e (a_variable u) = rw e (and_false _)
+not_noted_at v e (a_variable u) = rw e (and-false _)
 not_noted_at v e (a_kind k) = refl
 
 pub not_noted : (n : Named) (v : Variable) → is_of_citation v ≡ true → named_set n ≡ named_union (named_set n) (the_variable v)

@@ -3,8 +3,9 @@ use Rattle.std.proofs.Common.{◌≡◌, ℕ, ℤ, ◌+◌, ◌<◌, List, [], �
 use Rattle.std.specs.Prelude.{unsigned_abs}
 use Rattle.std.specs.Option.{option_or, option_eq}
 use Rattle.std.specs.Bool.{Decides}
-use Rattle.std.proofs.lemmas.Bool.{false≢true}
+use Rattle.std.proofs.lemmas.Bool.{and_parts, false≢true}
 use Rattle.std.proofs.lemmas.List.{drop_more}
+use Rattle.std.proofs.lemmas.List.Folds.{find-append}
 use mathlib.Core.Path.{fun_ext}
 use denote.Enum.Bare.{sameb}
 use Rattle.csl_common.specs.declared.ordinal.GrammarGender.{GrammarGender}
@@ -29,13 +30,8 @@ use Rattle.csl_style.specs.FirstOrdinals.{OrdinalTest, first_passing, passes, sa
 abbrev pub IsFound : Option OrdinalView → Type 0
 IsFound f = (later : Option OrdinalView) → option_or f later ≡ f
 
-or-cond : (b : Bool) (x : OrdinalView) (f g : Option OrdinalView) → cond b (Some x) (option_or f g) ≡ option_or (cond b (Some x) f) g
-or-cond true x f g = refl
-or-cond false x f g = refl
-
 pub first_append : (t : OrdinalTest) (xs : List OrdinalView) (o : OrdinalView) → first_passing t (xs ++ o ∷ []) ≡ option_or (first_passing t xs) (cond (passes t o) (Some o) None)
-first_append t [] o = refl
-first_append t (x ∷ xs) o = ap (λ r. cond (passes t x) (Some x) r) (first_append t xs o) ∙ or-cond (passes t x) x (first_passing t xs) (cond (passes t o) (Some o) None)
+first_append t xs o = find-append (passes t) xs (o ∷ [])
 
 -- an ordinal with an earlier twin is not the first that passes
 pub passed_over : (b : Bool) (o : OrdinalView) (f rest all : Option OrdinalView) → (b ≡ true → IsFound f) → option_or f (cond b (Some o) rest) ≡ all → option_or f rest ≡ all
@@ -96,35 +92,29 @@ slot_decides a b = values_tell true false false false≢true false≢true slots 
     bytes_decide : (x y : ℕ) → Decides (nat_eq x y) (x ≡ y)
     bytes_decide x y = search rules
 
-match_same : (a b : Option OrdinalMatch) → option_eq (sameb the_match) a b ≡ true → a ≡ b
-match_same None None e = refl
-match_same None (Some y) e = absurd (false≢true e)
-match_same (Some x) None e = absurd (false≢true e)
-match_same (Some x) (Some y) e = ap Some (one x y e)
-  where
-    one : (x y : OrdinalMatch) → sameb the_match x y ≡ true → x ≡ y
-    one x y = search rules
+one_match : (x y : OrdinalMatch) → sameb the_match x y ≡ true → x ≡ y
+one_match x y = search rules
 
-gender_same : (a b : Option GrammarGender) → option_eq (sameb the_type) a b ≡ true → a ≡ b
-gender_same None None e = refl
-gender_same None (Some y) e = absurd (false≢true e)
-gender_same (Some x) None e = absurd (false≢true e)
-gender_same (Some x) (Some y) e = ap Some (one x y e)
-  where
-    one : (x y : GrammarGender) → sameb the_type x y ≡ true → x ≡ y
-    one x y = search rules
+one_gender : (x y : GrammarGender) → sameb the_type x y ≡ true → x ≡ y
+one_gender x y = search rules
+
+both_same : {A : Type 0} (same : A → A → Bool) → ((x y : A) → same x y ≡ true → x ≡ y) → (a b : Option A) → option_eq same a b ≡ true → a ≡ b
+both_same same one None None e = refl
+both_same same one None (Some y) e = absurd (false≢true e)
+both_same same one (Some x) None e = absurd (false≢true e)
+both_same same one (Some x) (Some y) e = ap Some (one x y e)
 
 both-parts : (a b c : Bool) → ((a && b) && c) ≡ true → (a ≡ true) × (b ≡ true) × (c ≡ true)
-both-parts true true true e = (refl, refl, refl)
-both-parts true true false e = absurd (false≢true e)
-both-parts true false c e = absurd (false≢true e)
-both-parts false b c e = absurd (false≢true e)
+both-parts a b c e =
+    let outer = and_parts (a && b) c e in
+    let inner = and_parts a b outer.0 in
+    (inner.0, inner.1, outer.1)
 
 -- a test that one of the two passes is passed by the other
 pub passes-same : (test : OrdinalTest) (s z : OrdinalSlot) (m n : Option OrdinalMatch) (g h : Option GrammarGender) → same_key (s, m, g) (z, n, h) ≡ true → test z n h ≡ true → test s m g ≡ true
 passes-same test s z m n g h e passed =
     let parts = both-parts (eq-value.it s z) (option_eq (sameb the_match) m n) (option_eq (sameb the_type) g h) e in
-    ap (λ k. test k m g) ((slot_decides s z).0 parts.0) ∙ ap (λ k. test z k g) (match_same m n parts.1) ∙ ap (λ k. test z n k) (gender_same g h parts.2) ∙ passed
+    ap (λ k. test k m g) ((slot_decides s z).0 parts.0) ∙ ap (λ k. test z k g) (both_same (sameb the_match) one_match m n parts.1) ∙ ap (λ k. test z n k) (both_same (sameb the_type) one_gender g h parts.2) ∙ passed
 
 -- ---- lookups
 

@@ -1,40 +1,38 @@
 -- If the macros have ranks, none leads back to itself.
 use Rattle.std.proofs.Common.{◌≡◌, ℕ, ◌<◌, List, Option, Some, None, option_map, slice_index, true, nat_lt, refl, sym, ap, ◌∙◌, subst, arith, inl, inr}
+use Rattle.std.proofs.lemmas.Bool.{and_parts}
 use Rattle.std.proofs.lemmas.Bool.Decides.{nat_tests}
-use Rattle.csl_elements.specs.Node.{Node, text, call, number, label, date, names, choose, group, Nodes, no_nodes, node, Branches, no_branches, otherwise, branch, Substitutes, no_substitutes, substitute}
+use Rattle.csl_elements.specs.Node.{Node, call, names, choose, group, Nodes, no_nodes, node, Branches, no_branches, otherwise, branch, Substitutes, no_substitutes, substitute}
 use Rattle.csl_elements.specs.View.{Definition}
 use Rattle.csl_style.specs.Expansion.{macro_body, macro_index, rank_of, is_below, calls_below, all_below, branches_below, substitutes_below, body_below, AreRanks, IsAcyclic}
 use Rattle.csl_style.specs.MacroCalls.{Calls, OneCalls, BranchCalls, SubstituteCalls, BodyCalls, LeadsTo, at_once, through}
 use Rattle.csl_style.specs.Style.{HasNoCycle}
-use Rattle.csl_style.proofs.Meanings.{both, body-none}
+use Rattle.csl_style.proofs.Meanings.{body-none}
 
 module _ (rank : List ℕ → Option ℕ) (r : ℕ) (name : List ℕ) where
   mutual
     call-below : (n : Node) → Calls name n → calls_below rank r n ≡ true → is_below (rank name) r ≡ true
-    call-below (text t d) c h = absurd c
     call-below (call other d) c h = subst (λ x. is_below (rank x) r ≡ true) (sym c) h
-    call-below (number n) c h = absurd c
-    call-below (label v l) c h = absurd c
-    call-below (date d) c h = absurd c
     call-below (names n ss) c h = substitute-below ss c h
     call-below (choose bs) c h = branch-below bs c h
     call-below (group delimiter d ns) c h = one-below ns c h
+    call-below other c h = absurd c
 
     one-below : (ns : Nodes) → OneCalls name ns → all_below rank r ns ≡ true → is_below (rank name) r ≡ true
     one-below no_nodes c h = absurd c
-    one-below (node n ns) (inl c) h = call-below n c (both (calls_below rank r n) (all_below rank r ns) h).0
-    one-below (node n ns) (inr c) h = one-below ns c (both (calls_below rank r n) (all_below rank r ns) h).1
+    one-below (node n ns) (inl c) h = call-below n c (and_parts (calls_below rank r n) (all_below rank r ns) h).0
+    one-below (node n ns) (inr c) h = one-below ns c (and_parts (calls_below rank r n) (all_below rank r ns) h).1
 
     branch-below : (bs : Branches) → BranchCalls name bs → branches_below rank r bs ≡ true → is_below (rank name) r ≡ true
     branch-below no_branches c h = absurd c
     branch-below (otherwise ns) c h = one-below ns c h
-    branch-below (branch ts ns bs) (inl c) h = one-below ns c (both (all_below rank r ns) (branches_below rank r bs) h).0
-    branch-below (branch ts ns bs) (inr c) h = branch-below bs c (both (all_below rank r ns) (branches_below rank r bs) h).1
+    branch-below (branch ts ns bs) (inl c) h = one-below ns c (and_parts (all_below rank r ns) (branches_below rank r bs) h).0
+    branch-below (branch ts ns bs) (inr c) h = branch-below bs c (and_parts (all_below rank r ns) (branches_below rank r bs) h).1
 
     substitute-below : (ss : Substitutes) → SubstituteCalls name ss → substitutes_below rank r ss ≡ true → is_below (rank name) r ≡ true
     substitute-below no_substitutes c h = absurd c
-    substitute-below (substitute ns ss) (inl c) h = one-below ns c (both (all_below rank r ns) (substitutes_below rank r ss) h).0
-    substitute-below (substitute ns ss) (inr c) h = substitute-below ss c (both (all_below rank r ns) (substitutes_below rank r ss) h).1
+    substitute-below (substitute ns ss) (inl c) h = one-below ns c (and_parts (all_below rank r ns) (substitutes_below rank r ss) h).0
+    substitute-below (substitute ns ss) (inr c) h = substitute-below ss c (and_parts (all_below rank r ns) (substitutes_below rank r ss) h).1
 
   called-below : (o : Option Nodes) → BodyCalls name o → body_below rank r o ≡ true → is_below (rank name) r ≡ true
   called-below None c h = absurd c

@@ -2,7 +2,8 @@
 use Rattle.std.proofs.Common.{◌≡◌, ℕ, zero, suc, ◌<◌, ◌≤◌, ◌+◌, List, [], ◌∷◌, ◌++◌, length, slice_index, set, replicate, Bool, true, false, nat_eq, refl, sym, ap, ◌∙◌, subst, arith, ◌⊎◌, inl, inr, length-set, length-append}
 use Rattle.std.proofs.lemmas.Bool.Decides.{nat_tests}
 use Rattle.csl_style.specs.Cycles.{Graph, HasEdge, Reaches, along_edge, along_edges, is_marked, IsReach}
-use Rattle.csl_style.proofs.Marks.{marks, marks-none, none-marked, none-length, marks-set, marked-before, still-marked}
+use Rattle.std.proofs.lemmas.List.{length-replicate}
+use Rattle.csl_style.proofs.Marks.{marks, marks-none, none-marked, marks-set, marked-before, still-marked}
 use Rattle.csl_style.proofs.Edges.{reaches-on}
 
 -- The list of found places begins with the place itself and has each marked place. The edges of its
@@ -45,7 +46,7 @@ pub start : (g : Graph) (from : ℕ) → from < length g → IsSearch g from (re
 start g from within =
     let never : (q : ℕ) → is_marked (replicate (length g) false) q ≡ true → ⊥ = λ q h. let e = none-marked (length g) q in grind arith in
     record {
-      each = none-length (length g);
+      each = length-replicate (length g) false;
       counted = ap suc (sym (marks-none (length g)));
       inside = λ k less. let e : k ≡ 0 = omega arith in rw e within;
       first = refl;
