@@ -4,7 +4,7 @@
 use Rattle.std.specs.Prelude.{ℕ, List, [], ◌∷◌, ◌++◌, Option, Some, None, Bool, false}
 use denote.Bor.{Bor}
 use Rattle.csl_elements.specs.Node.{Node, text, call, number, label, date, names, choose, group, Nodes, no_nodes, node, Branches, no_branches, otherwise, branch, Substitutes, no_substitutes, substitute}
-use Rattle.csl_elements.specs.View.{view_nodes, NamesChildView, a_name, an_et_al, a_label, a_substitute}
+use Rattle.csl_elements.specs.View.{view_nodes, NamesChildView, a_substitute}
 use Rattle.csl_style.specs.YearSuffix.{prints_year_suffix}
 use Rattle.csl_elements.specs.declared.element.LayoutRenderingElement.{LayoutRenderingElement}
 
@@ -39,29 +39,15 @@ nodes_left (l ∷ ls) = nodes_left ls ++ all_nodes (view_nodes l.now)
 
 -- the name that a node calls itself, without the nodes inside it
 abbrev pub called_name : Node → Option (List ℕ)
-called_name (text t d) = None
 called_name (call name d) = Some name
-called_name (number n) = None
-called_name (label v l) = None
-called_name (date d) = None
-called_name (names n ss) = None
-called_name (choose bs) = None
-called_name (group delimiter d ns) = None
+called_name other = None
 
 -- whether a node is a text of the year suffix itself
 abbrev pub is_suffix_text : Node → Bool
 is_suffix_text (text t d) = prints_year_suffix t
-is_suffix_text (call name d) = false
-is_suffix_text (number n) = false
-is_suffix_text (label v l) = false
-is_suffix_text (date d) = false
-is_suffix_text (names n ss) = false
-is_suffix_text (choose bs) = false
-is_suffix_text (group delimiter d ns) = false
+is_suffix_text other = false
 
 -- the nodes inside a child of names
 abbrev pub nodes_in_child : NamesChildView → List Node
-nodes_in_child (a_name n) = []
-nodes_in_child (an_et_al e) = []
-nodes_in_child (a_label l) = []
 nodes_in_child (a_substitute ns) = all_nodes ns
+nodes_in_child other = []

@@ -3,21 +3,16 @@
 -- a macro that the style has holds the nodes of the macro. A names node holds those of its
 -- substitutes, and a choose those of its branches.
 use Rattle.std.specs.Prelude.{ℕ, suc, max, List, Option}
-use Rattle.csl_elements.specs.View.{NamesChildView, a_name, an_et_al, a_label, a_substitute}
-use Rattle.csl_elements.specs.Node.{ExpandedNode, expanded_text, expanded_macro, unknown_macro, expanded_number, expanded_label, expanded_date, expanded_names, shorthand, expanded_choose, expanded_group, ExpandedNodes, no_expanded_nodes, expanded_node, ExpandedBranches, no_expanded_branches, expanded_otherwise, expanded_branch, ExpandedSubstitutes, no_expanded_substitutes, expanded_substitute, ExpandedLayout, expand_nodes}
+use Rattle.csl_elements.specs.View.{NamesChildView, a_substitute}
+use Rattle.csl_elements.specs.Node.{ExpandedNode, expanded_macro, expanded_names, expanded_choose, expanded_group, ExpandedNodes, no_expanded_nodes, expanded_node, ExpandedBranches, no_expanded_branches, expanded_otherwise, expanded_branch, ExpandedSubstitutes, no_expanded_substitutes, expanded_substitute, ExpandedLayout, expand_nodes}
 
 abbrev mutual
   pub node_depth : ExpandedNode → ℕ
-  node_depth (expanded_text t d) = 1
   node_depth (expanded_macro fs d) = suc (nodes_depth fs)
-  node_depth unknown_macro = 1
-  node_depth (expanded_number n) = 1
-  node_depth (expanded_label v l) = 1
-  node_depth (expanded_date d) = 1
   node_depth (expanded_names n is) = suc (substitutes_depth is)
-  node_depth (shorthand written n) = 1
   node_depth (expanded_choose cs) = suc (branches_depth cs)
   node_depth (expanded_group delimiter d fs) = suc (nodes_depth fs)
+  node_depth other = 1
 
   pub nodes_depth : ExpandedNodes → ℕ
   nodes_depth no_expanded_nodes = 0
@@ -38,7 +33,5 @@ layout_depth l = suc (nodes_depth l.elements)
 
 -- the depth of the nodes in a child of names as written; only a substitute has any
 abbrev pub child_depth : (List ℕ → Option ExpandedNodes) → NamesChildView → ℕ
-child_depth env (a_name n) = 0
-child_depth env (an_et_al e) = 0
-child_depth env (a_label l) = 0
 child_depth env (a_substitute ns) = nodes_depth (expand_nodes env ns)
+child_depth env other = 0

@@ -2,21 +2,18 @@
 -- calls a macro that leads to it. Any depth means in groups, in each branch of a choice and in its
 -- `cs:else`, and in each substitute of names. Of several macros of one name only the first counts.
 use Rattle.std.specs.Prelude.{◌≡◌, ℕ, List, Option, Some, None, ◌⊎◌}
-use Rattle.csl_elements.specs.Node.{Node, text, call, number, label, date, names, choose, group, Nodes, no_nodes, node, Branches, no_branches, otherwise, branch, Substitutes, no_substitutes, substitute}
+use Rattle.csl_elements.specs.Node.{Node, call, names, choose, group, Nodes, no_nodes, node, Branches, no_branches, otherwise, branch, Substitutes, no_substitutes, substitute}
 use Rattle.csl_elements.specs.View.{Definition}
 use Rattle.csl_style.specs.Expansion.{macro_body}
 
 -- the node calls the name, at any depth
 abbrev mutual
   pub Calls : List ℕ → Node → Type 0
-  Calls name (text t d) = ⊥
   Calls name (call other d) = name ≡ other
-  Calls name (number n) = ⊥
-  Calls name (label v l) = ⊥
-  Calls name (date d) = ⊥
   Calls name (names n ss) = SubstituteCalls name ss
   Calls name (choose bs) = BranchCalls name bs
   Calls name (group delimiter d ns) = OneCalls name ns
+  Calls name other = ⊥
 
   pub OneCalls : List ℕ → Nodes → Type 0
   OneCalls name no_nodes = ⊥

@@ -22,7 +22,7 @@ pub use Rattle.csl_elements.specs.NamedSet.{NamedItem, a_variable, a_kind, Named
 unfoldable pub use Rattle.csl_elements.specs.NamedSet.{named_union}
 use Rattle.csl_elements.specs.Names.{NamesNode}
 use Rattle.csl_elements.specs.Taxonomy.{is_of_citation}
-use Rattle.csl_elements.specs.View.{NamesChildView, a_name, an_et_al, a_label, a_substitute, BranchView}
+use Rattle.csl_elements.specs.View.{NamesChildView, a_substitute, BranchView}
 use Rattle.csl_elements.specs.Node.{Target, of_variable, of_term, of_value, Tests, ExpandedNode, expanded_text, expanded_macro, unknown_macro, expanded_number, expanded_label, expanded_date, expanded_names, shorthand, expanded_choose, expanded_group, ExpandedNodes, no_expanded_nodes, expanded_node, ExpandedBranches, no_expanded_branches, expanded_otherwise, expanded_branch, ExpandedSubstitutes, no_expanded_substitutes, expanded_substitute, expand_nodes}
 
 -- the set of one variable, or of none if it is one of the citation
@@ -110,10 +110,8 @@ named_in_macro (Some fs) = named_in_nodes fs
 
 -- a child of a names node, without the variables of the node
 abbrev pub named_in_child : (List ℕ → Option ExpandedNodes) → NamesChildView → NamedSet
-named_in_child env (a_name n) = empty_named_set
-named_in_child env (an_et_al e) = empty_named_set
-named_in_child env (a_label l) = empty_named_set
 named_in_child env (a_substitute ns) = named_in_nodes (expand_nodes env ns)
+named_in_child env other = empty_named_set
 
 -- a branch with its tests
 abbrev pub named_in_branch : (List ℕ → Option ExpandedNodes) → BranchView → NamedSet

@@ -4,19 +4,16 @@
 -- The first missing macro (`Missing`), the edges of the graph of calls (`CallGraph`) and the ranks
 -- of macros (`Expansion`) are told so.
 use Rattle.std.specs.Prelude.{ℕ, List}
-use Rattle.csl_elements.specs.Node.{Node, text, call, number, label, date, names, choose, group, Nodes, no_nodes, node, Branches, no_branches, otherwise, branch, Substitutes, no_substitutes, substitute}
+use Rattle.csl_elements.specs.Node.{Node, call, names, choose, group, Nodes, no_nodes, node, Branches, no_branches, otherwise, branch, Substitutes, no_substitutes, substitute}
 
 module _ {A : Type 0} (none : A) (one : List ℕ → A) (both : A → A → A) where
   abbrev mutual
     pub over_node : Node → A
-    over_node (text t d) = none
     over_node (call name d) = one name
-    over_node (number n) = none
-    over_node (label v l) = none
-    over_node (date d) = none
     over_node (names n ss) = over_substitutes ss
     over_node (choose bs) = over_branches bs
     over_node (group delimiter d ns) = over_nodes ns
+    over_node other = none
 
     pub over_nodes : Nodes → A
     over_nodes no_nodes = none

@@ -17,7 +17,7 @@ use Rattle.csl_elements.specs.declared.date.DateForm.{DateForm}
 use Rattle.csl_elements.specs.declared.locale.Locale.{Locale}
 use Rattle.csl_elements.specs.Names.{NamesNode, NameNode}
 use Rattle.csl_elements.specs.View.{NamesChildView, a_name, an_et_al, a_label, a_substitute}
-use Rattle.csl_elements.specs.Node.{DateNode, Tests, ExpandedNode, expanded_text, expanded_macro, unknown_macro, expanded_number, expanded_label, expanded_date, expanded_names, shorthand, expanded_choose, expanded_group, ExpandedNodes, no_expanded_nodes, expanded_node, ExpandedBranches, no_expanded_branches, expanded_otherwise, expanded_branch, ExpandedSubstitutes, no_expanded_substitutes, expanded_substitute, ExpandedLayout, expand_nodes}
+use Rattle.csl_elements.specs.Node.{Tests, ExpandedNode, expanded_macro, expanded_date, expanded_names, shorthand, expanded_choose, expanded_group, ExpandedNodes, no_expanded_nodes, expanded_node, ExpandedBranches, no_expanded_branches, expanded_otherwise, expanded_branch, ExpandedSubstitutes, no_expanded_substitutes, expanded_substitute, ExpandedLayout, expand_nodes}
 
 -- the items of a test, if the branch has it
 abbrev pub list_weight : {A : Type 0} → Option (List A) → ℕ
@@ -52,16 +52,13 @@ counted once locales = if once then locales else []
 module _ (once : Bool) (locales : List Locale) where
   abbrev mutual
     pub weight : ExpandedNode → ℕ
-    weight (expanded_text t d) = 0
     weight (expanded_macro fs d) = suc (weights fs)
-    weight unknown_macro = 0
-    weight (expanded_number n) = 0
-    weight (expanded_label v l) = 0
     weight (expanded_date d) = length d.date_part + localized_parts locales d.form
     weight (expanded_names n is) = suc (names_weight n + substitutes_weight is)
     weight (shorthand written n) = suc (names_weight written)
     weight (expanded_choose cs) = suc (branches_weight cs)
     weight (expanded_group delimiter d fs) = suc (weights fs)
+    weight other = 0
 
     pub weights : ExpandedNodes → ℕ
     weights no_expanded_nodes = 0
