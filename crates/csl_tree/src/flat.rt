@@ -16,8 +16,15 @@ use lit_model::Memory;
 use std::alloc::Global;
 use std::marker::Model;
 
-/// The room made for children and marks when the first part opens. It is what most cites need.
-const ROOM_OF_A_CITE: usize = 8;
+/// The room made for children when the first part opens. It is what most cites need. In bytes it is
+/// below 1,008: for more, malloc first joins all small pieces that are free.
+const ROOM_FOR_CHILDREN: usize = 13;
+
+/// The room made for marks when the first part opens. It is what most cites need.
+const ROOM_FOR_MARKS: usize = 64;
+
+/// The room made in a text for a text that joins it, such as a suffix.
+const ROOM_TO_JOIN: usize = 16;
 
 /// A tree under construction: its open parts, each with its content. The root is always open.
 #[derive(Drop)]
@@ -163,7 +170,9 @@ impl FlatTree {
         if self.join_end(more, formatting)? {
             return Ok(());
         }
-        let text = String::from_str(self.alloc, more)?;
+        let room = more.len().saturating_add(ROOM_TO_JOIN);
+        let mut text = String::with_capacity(self.alloc, room)?;
+        text.push_str(more)?;
         self.push_child(ElemChild::Text(Formatted { text, formatting }))
     }
 
@@ -196,8 +205,8 @@ impl FlatTree {
         ensures err { OnErr result (self.new ≡ self.old) }
     {
         if self.children.is_empty() {
-            self.children.reserve(ROOM_OF_A_CITE)?;
-            self.around.reserve(ROOM_OF_A_CITE)?;
+            self.children.reserve(ROOM_FOR_CHILDREN)?;
+            self.around.reserve(ROOM_FOR_MARKS)?;
         }
         self.around.push(self.start)?;
         self.start = self.children.len();
