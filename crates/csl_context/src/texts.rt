@@ -61,8 +61,12 @@ impl TextWriter {
     {
         match text {
             Some(text) => {
-                let text = self.copy(text)?;
-                all.push_str(text.as_str())?;
+                if self.strip_periods {
+                    let kept = without_periods(self.alloc, text)?;
+                    all.push_str(kept.as_str())?;
+                } else {
+                    all.push_str(text)?;
+                }
                 Ok(())
             }
             None => Ok(()),
