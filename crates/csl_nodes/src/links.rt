@@ -52,8 +52,9 @@ pub(crate) fn begins_link(text: &Text, variable: StandardVariable) -> bool
 pub(crate) fn address(alloc: Global, prefix: &str, answer: &ChunkedString) -> Result<String, Memory>
     ensures { IfOk result (λ url. string_bytes url ≡ prefix.now ++ chunks_text (chunks answer.now)) }
 {
-    let mut url = String::from_str(alloc, prefix)?;
     let text = answer.to_text(alloc)?;
+    let mut url = String::with_capacity(alloc, prefix.len().saturating_add(text.len()))?;
+    url.push_str(prefix)?;
     url.push_str(text.as_str())?;
     Ok(url)
 }

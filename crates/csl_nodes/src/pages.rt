@@ -1,7 +1,7 @@
 //! Pages in the format of a style (CSL 1.0.2, Terms: page-range-delimiter; Appendix V: Page Range
 //! Formats).
 
-ghost use Rattle.std.specs.Prelude.{◌≡◌, ◌++◌, true, length, IfOk, OnOk, string_bytes};
+ghost use Rattle.std.specs.Prelude.{◌≡◌, ◌-◌, ◌++◌, true, length, take, IfOk, OnOk, string_bytes};
 ghost use Rattle.std.specs.Str.{IsAscii};
 ghost use Rattle.lit_model.specs.Numeric.{numeric_view};
 ghost use Rattle.lit_model.specs.NumericWrite.{numeric_text};
@@ -12,6 +12,9 @@ use csl_context::Context;
 use csl_style::{OtherTerm, PageRangeFormat, Term, TermForm};
 use lit_model::{Memory, Numeric, PageRanges, PageRangesPart};
 use std::alloc::Global;
+
+/// The room made for pages, which is that of a range.
+const ROOM_OF_PAGES: usize = 24;
 
 /// The least number of digits that a format keeps of the end of a range, if it drops repeated ones.
 /// No style has a Chicago format.
@@ -36,6 +39,16 @@ fn is_digits(text: &str) -> bool
     !text.is_empty() && text.bytes().all(|b| b.is_ascii_digit())
 }
 
+/// The front of a start that completes a shorter end.
+fn missing_front<'t>(from: &'t str, to: &str) -> &'t str
+    requires { IsAscii from.now }
+    ensures { result.now ≡ take (length from.now - length to.now) from.now }
+{
+    let missing = from.len().saturating_sub(to.len());
+    let (front, _) = from.split_at(missing);
+    front
+}
+
 /// The end of a range. If it is shorter than the start, the start's front completes it.
 fn completed_end(alloc: Global, from: &str, to: &str) -> Result<String, Memory>
     requires from { IsAscii from.now }
@@ -43,9 +56,7 @@ fn completed_end(alloc: Global, from: &str, to: &str) -> Result<String, Memory>
     ensures text { IfOk result (λ s. string_bytes s ≡ spec.completed_end from.now to.now) }
     ensures ascii { IfOk result (λ s. IsAscii (string_bytes s)) }
 {
-    let missing = from.len().saturating_sub(to.len());
-    let (front, _) = from.split_at(missing);
-    let mut filled = String::from_str(alloc, front)?;
+    let mut filled = String::from_str(alloc, missing_front(from, to))?;
     filled.push_str(to)?;
     Ok(filled)
 }
@@ -85,12 +96,16 @@ fn push_end(
         text.push_str(to)?;
         return Ok(());
     }
+    let Some(kept) = kept else {
+        text.push_str(missing_front(from, to))?;
+        text.push_str(to)?;
+        return Ok(());
+    };
     let filled = completed_end(alloc, from, to)?;
-    match kept {
-        Some(kept) if filled.len() == from.len() => {
-            text.push_str(abbreviated_end(from, filled.as_str(), kept))?;
-        }
-        _ => text.push_str(filled.as_str())?,
+    if filled.len() == from.len() {
+        text.push_str(abbreviated_end(from, filled.as_str(), kept))?;
+    } else {
+        text.push_str(filled.as_str())?;
     }
     Ok(())
 }
@@ -152,7 +167,7 @@ fn pages_in_format(
         ≡ spec.pages_in_format format delimiter.now (pages_view pages.now)) }
 {
     let kept = kept_digits(format);
-    let mut text = String::new(alloc);
+    let mut text = String::with_capacity(alloc, ROOM_OF_PAGES)?;
     for part in &pages.ranges {
         push_part(alloc, &mut text, kept, delimiter, part)?;
     }
