@@ -6,7 +6,7 @@ use Rattle.csl_style.specs.Expanded.{macro_env}
 use Rattle.csl_tree.specs.Content.{elem_content}
 use Rattle.csl_entry.specs.Answers.{Answers}
 use Rattle.csl_context.specs.Bodies.{BodyAttributes, values_before, with_open_body, with_closed_body}
-use Rattle.csl_context.specs.Context.{ContextView, render_input, with_part, close_part_by, with_delimiter, without_delimiter}
+use Rattle.csl_context.specs.Context.{ContextView, render_input, with_part, close_part_by, with_inherited_delimiter}
 use Rattle.csl_nodes.specs.Text.{with_output}
 use Rattle.csl_render.specs.Tree.{nodes_output}
 
@@ -21,7 +21,7 @@ module _ {T : Type 0} (answers : T → Answers) where
 
   -- the context after the nodes of a macro, which inherit no delimiter
   abbrev pub with_undelimited : Nodes → ContextView T → ContextView T
-  with_undelimited ns now = without_delimiter (with_nodes ns (with_delimiter None now))
+  with_undelimited ns now = with_inherited_delimiter now.inherited.delimiter (with_nodes ns (with_inherited_delimiter None now))
 
   abbrev pub called_by : TextDressing → Nodes → AffixTexts → ContextView T → ContextView T
   called_by d ns a now =

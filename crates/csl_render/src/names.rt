@@ -500,13 +500,13 @@ fn render_first_substitute<'p, 's, T: EntryLike>(
         result ctx.old ctx.new }
 {
     ctx.push_name_options(&names.options)?;
-    ctx.push_format(names.formatting)?;
+    let outer_format = ctx.enter_format(names.formatting)?;
     let suppressing = ctx.start_suppressing_queried_variables();
     let element = ctx.push_elem()?;
     render_until_text(ctx, nodes, names, plan)?;
     commit_names(ctx, element, names.display, lists)?;
     ctx.restore_suppressing(suppressing);
-    ctx.pop_format();
+    ctx.leave_format(outer_format);
     ctx.pop_name_options();
     Ok(())
 }
