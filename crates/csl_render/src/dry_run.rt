@@ -16,12 +16,29 @@ use lit_model::Memory;
 use std::collections::BTreeMap;
 use std::marker::Model;
 
+/// The room made for the first items of a plan. In bytes it is below 1,008: for more, malloc first
+/// joins all small pieces that are free.
+const ROOM_OF_A_PLAN: usize = 20;
+
+/// The room made for more items. Most plans need no more than both.
+const MORE_ROOM: usize = 44;
+
 /// The place of the macro of a name, if the style has it.
 #[tactic(auto, using(crate::proofs::DryRuns::nodes_called))]
 pub(crate) fn macro_place<T>(ctx: &Context<'_, T>, name: &str) -> Option<usize>
     ensures { nodes_at ctx.now.style result ≡ macro_env ctx.now.style name.now }
 {
     ctx.style().macro_index(name)
+}
+
+/// Makes room for more items in a list, if it has just so many.
+fn make_room_at<X>(list: &mut Vec<X>, len: usize, more: usize) -> Result<(), Memory>
+    ensures { list.new.items ≡ list.old.items }
+{
+    if list.len() == len {
+        list.reserve(more)?;
+    }
+    Ok(())
 }
 
 /// A dry run over a context that is only read. It visits each macro at most once, and keeps the
@@ -77,6 +94,8 @@ impl<'c, 's, T: EntryLike> DryRun<'c, 's, T> {
         ensures place { IfOk result (λ place. place ≡ length self.old.items) }
         ensures adds { IfOk result (λ _. Adds (λ is. length is ≡ 1) self.old self.new) }
     {
+        make_room_at(&mut self.items, 0, ROOM_OF_A_PLAN)?;
+        make_room_at(&mut self.items, ROOM_OF_A_PLAN, MORE_ROOM)?;
         let place = self.items.len();
         let info = NodeInfo::new(no_info(), VariableSet::new());
         self.items.push(PlanItem { info, inside: 0 })?;
