@@ -1,12 +1,15 @@
 -- The results that dry runs keep for macros stay right. Each is that of a text that calls the
 -- macro.
-use Rattle.std.proofs.Common.{◌≡◌, ℕ, zero, suc, Bool, true, false, cond, List, length, Option, Some, None, IfSome, option_map, refl, sym, ap, ◌∙◌}
+use Rattle.std.proofs.Common.{◌≡◌, ℕ, zero, suc, ◌<◌, Bool, true, false, cond, List, [], ◌∷◌, ◌++◌, length, get_or, Option, Some, None, IfSome, option_map, refl, sym, ap, subst, ◌∙◌}
+use Rattle.std.proofs.lemmas.List.Elements.{All-push}
 use Rattle.std.proofs.lemmas.Map.Lookups.{exact_unsigned}
+use Rattle.std.proofs.lemmas.Slice.Eq.{bytes_eq-Decides}
 use Rattle.std.specs.BTreeMap.{BTreeMap, get, is_at, Updates}
 use Rattle.std.specs.Map.{lookup}
 use Rattle.std.specs.declared.cmp.Ordering.{Ordering}
 use Rattle.std.specs.declared.cmp.Ordering.TheVariants.{Less, Equal, Greater}
 use Rattle.std.specs.Ordering.{is_eq, nat_cmp}
+use Rattle.std.specs.Str.{bytes_eq}
 use Rattle.csl_elements.specs.declared.taxonomy.Variable.{Variable}
 use Rattle.csl_elements.specs.Dressing.{TextDressing}
 use Rattle.csl_elements.specs.Node.{ExpandedNodes, expand_call, expand_nodes}
@@ -18,7 +21,9 @@ use Rattle.csl_style.specs.Expansion.{macro_index, macro_body, expansion_to_dept
 use Rattle.csl_style.specs.Style.{StyleParts}
 use Rattle.csl_context.specs.State.{State}
 use Rattle.csl_context.specs.RenderInput.{RenderInput}
-use Rattle.csl_render.specs.DryRun.{nodes_at, call_info, call_shows}
+use Rattle.csl_render.specs.declared.dry_run.KeptCall.{KeptCall}
+use Rattle.csl_render.specs.DryRun.{nodes_at, call_info, call_shows, IsCallInfo, HasListed}
+use Rattle.csl_render.specs.Plan.{DryView}
 use Rattle.csl_render.specs.Tree.{info, shows}
 
 -- a key that is equal to another in the order of numbers is that number
@@ -49,6 +54,17 @@ module _ {X : Type 0} (Right : ℕ → X → Type 0) where
 pub recalled : {X : Type 0} (P : X → Type 0) (o : Option X) → ((a : X) → o ≡ Some a → P a) → IfSome o P
 recalled P None h = tt
 recalled P (Some a) h = h a refl
+
+-- ---- results in a list
+
+module _ (w : RenderInput) (d : DryView) where
+  -- a result under a name of the same bytes
+  pub listed_here : (calls listed : List KeptCall) (i : ℕ) (x : KeptCall) (name : List ℕ) → listed ≡ calls → i < length listed → HasListed w d calls → bytes_eq (get_or listed i x).name.now name ≡ true → IsCallInfo w d (macro_env w.style name) (get_or listed i x).info
+  listed_here calls listed i x name same inside all equal = subst (λ n. IsCallInfo w d (macro_env w.style n) (get_or listed i x).info) ((bytes_eq-Decides (get_or listed i x).name.now name).0 equal) (subst (HasListed w d) (sym same) all i x inside)
+
+  -- one more result
+  pub listed_more : (calls room now : List KeptCall) (x : KeptCall) → now ≡ room ++ x ∷ [] → room ≡ calls → HasListed w d calls → IsCallInfo w d (macro_env w.style x.name.now) x.info → HasListed w d now
+  listed_more calls room now x pushed same all new = subst (HasListed w d) (sym (pushed ∙ ap (λ l. l ++ x ∷ []) same)) (All-push (λ c. IsCallInfo w d (macro_env w.style c.name.now) c.info) calls x all new)
 
 -- ---- texts that call a macro
 

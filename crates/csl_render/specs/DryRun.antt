@@ -1,8 +1,8 @@
 -- Dry runs and queries. A dry run adds its results to a list (`Adds`). Both keep results for macros
 -- (CSL 1.0.2, Macro). In one input and state the result for a text that calls a macro depends on the
--- macro's name alone. One result for each name is enough. It is kept by the place of the first macro
--- of the name. A dry run keeps the set of the variables that it read, too.
-use Rattle.std.specs.Prelude.{◌≡◌, ◌++◌, ℕ, Bool, false, List, Option, Some, None}
+-- macro's name alone. One result for each name is enough. It is kept by the name, or by the place of
+-- the first macro of the name. A dry run keeps the set of the variables that it read, too.
+use Rattle.std.specs.Prelude.{◌≡◌, ◌++◌, ℕ, All, Bool, false, List, Option, Some, None}
 use Rattle.std.specs.BTreeMap.{BTreeMap, get}
 use Rattle.std.specs.Ordering.{nat_cmp}
 use Rattle.csl_elements.specs.declared.taxonomy.Variable.{Variable}
@@ -15,6 +15,9 @@ use Rattle.csl_context.specs.Context.{ContextView}
 use Rattle.csl_context.specs.State.{State}
 use Rattle.csl_context.specs.RenderInput.{RenderInput}
 use Rattle.csl_nodes.specs.Usage.{Info, no_info, without_group_flag, macro_info}
+use Rattle.csl_render.specs.declared.dry_run.CallKey.{CallKey}
+use Rattle.csl_render.specs.declared.dry_run.CallKey.TheVariants.{Name, Place}
+use Rattle.csl_render.specs.declared.dry_run.KeptCall.{KeptCall}
 use Rattle.csl_render.specs.declared.plan.NodeInfo.{NodeInfo}
 use Rattle.csl_render.specs.declared.plan.PlanItem.{PlanItem}
 use Rattle.csl_render.specs.Names.{author}
@@ -36,9 +39,18 @@ abbrev pub nodes_at : StyleParts → Option ℕ → Option ExpandedNodes
 nodes_at style None = None
 nodes_at style (Some place) = macro_env style (name_at (definitions style.macros) place)
 
+-- the nodes that a key stands for
+abbrev pub nodes_of : StyleParts → CallKey → Option ExpandedNodes
+nodes_of style (Name name) = macro_env style name.now
+nodes_of style (Place place) = nodes_at style place
+
 -- a result for a text that calls a macro; `d` is what the dry run read of its state
 abbrev pub IsCallInfo : RenderInput → DryView → Option ExpandedNodes → NodeInfo → Type 0
 IsCallInfo w d nodes i = (s : State) → AreAlikeOn w i.read d s → (answer_of i ≡ call_info w s nodes) × TellsAuthor w i.shows_author (call_shows w s author nodes)
+
+-- each result is that of a text that calls the macro of its name
+abbrev pub HasListed : RenderInput → DryView → List KeptCall → Type 0
+HasListed w d calls = All (λ c. IsCallInfo w d (macro_env w.style c.name.now) c.info) calls
 
 -- each result is that of a text that calls the macro at its place
 abbrev pub HasInfos : RenderInput → DryView → BTreeMap ℕ NodeInfo → Type 0

@@ -4,7 +4,7 @@
 ghost use Rattle.std.specs.Prelude.{◌≡◌, ◌<◌, ◌-◌, [], length, set, IfOk, IfSome};
 ghost use Rattle.csl_style.specs.Expanded.{macro_env};
 ghost use Rattle.csl_context.specs.Context.{render_input};
-ghost use Rattle.csl_render.specs.DryRun.{Adds, IsCallInfo, nodes_at};
+ghost use Rattle.csl_render.specs.DryRun.{Adds, IsCallInfo, nodes_at, nodes_of};
 ghost use Rattle.csl_render.specs.Plan.{dry_now};
 
 use crate::plan::{NodeInfo, PlanItem};
@@ -22,6 +22,13 @@ const ROOM_OF_A_PLAN: usize = 20;
 
 /// The room made for more items. Most plans need no more than both.
 const MORE_ROOM: usize = 44;
+
+/// The most macros of a style whose results are kept in a list. To search it costs less than to look
+/// up the places of so few names.
+const MOST_LISTED: usize = 32;
+
+/// The room made for results in a list. It is what most cites need.
+const ROOM_FOR_CALLS: usize = 16;
 
 /// The place of the macro of a name, if the style has it.
 #[tactic(auto, using(crate::proofs::DryRuns::nodes_called))]
@@ -41,12 +48,33 @@ fn make_room_at<X>(list: &mut Vec<X>, len: usize, more: usize) -> Result<(), Mem
     Ok(())
 }
 
+/// How a dry run finds its result for a text that calls a macro: by the macro's name if the style
+/// has few macros, else by its place in the style.
+#[derive(Clone, Copy)]
+pub(crate) enum CallKey<'s> {
+    /// The macro's name.
+    Name(&'s str),
+    /// Its place, if the style has the macro.
+    Place(Option<usize>),
+}
+
+/// The result for a text that calls the macro of a name.
+#[derive(Clone, Copy)]
+pub(crate) struct KeptCall<'s> {
+    name: &'s str,
+    info: NodeInfo,
+}
+
 /// A dry run over a context that is only read. It visits each macro at most once, and keeps the
-/// result by the macro's place in the style.
+/// result: in a list by the macro's name if the style has few macros, else in a map by the macro's
+/// place in the style.
 #[derive(Drop)]
 pub(crate) struct DryRun<'c, 's, T: EntryLike> {
     ctx: &'c Context<'s, T>,
-    calls: BTreeMap<usize, NodeInfo>,
+    /// The results for macros, if the style has few.
+    listed: Vec<KeptCall<'s>>,
+    /// The results for macros, if the style has many.
+    mapped: BTreeMap<usize, NodeInfo>,
     /// The plan so far.
     items: Vec<PlanItem>,
 }
@@ -57,7 +85,7 @@ impl<'c, 's, T: EntryLike> Model for DryRun<'c, 's, T> {
     ghost use Rattle.csl_elements.specs.contracts.element.Layout as of_layout;
     ghost use Rattle.csl_elements.specs.SetCode.{set_code};
     ghost use Rattle.csl_context.specs.Context.{render_input};
-    ghost use Rattle.csl_render.specs.DryRun.{HasInfos, Run};
+    ghost use Rattle.csl_render.specs.DryRun.{HasInfos, HasListed, Run};
     ghost use Rattle.csl_render.specs.Plan.{dry_now};
 
     ghost Value = { Run T };
@@ -67,7 +95,9 @@ impl<'c, 's, T: EntryLike> Model for DryRun<'c, 's, T> {
 
     ghost view = { λ r. record { now = r.ctx.now; items = r.items.items } };
 
-    ghost invariant = { λ r. HasInfos (render_input T.answers r.ctx.now) (dry_now r.ctx.now) r.calls };
+    ghost invariant = { λ r.
+        HasListed (render_input T.answers r.ctx.now) (dry_now r.ctx.now) r.listed.items
+        × HasInfos (render_input T.answers r.ctx.now) (dry_now r.ctx.now) r.mapped };
 }
 
 impl<'c, 's, T: EntryLike> DryRun<'c, 's, T> {
@@ -77,7 +107,8 @@ impl<'c, 's, T: EntryLike> DryRun<'c, 's, T> {
     {
         DryRun {
             ctx,
-            calls: BTreeMap::new(ctx.alloc()),
+            listed: Vec::new(ctx.alloc()),
+            mapped: BTreeMap::new(ctx.alloc()),
             items: Vec::new(ctx.alloc()),
         }
     }
@@ -122,23 +153,81 @@ impl<'c, 's, T: EntryLike> DryRun<'c, 's, T> {
         self.items
     }
 
-    /// The result for a text that calls the macro at a place, if the dry run has kept it.
-    pub(crate) fn cached_call(&self, place: Option<usize>) -> Option<NodeInfo>
+    /// How the result for a text that calls the macro of a name is found.
+    pub(crate) fn key_of(&self, name: &'s str) -> CallKey<'s>
+        ensures { nodes_of self.now.now.style result ≡ macro_env self.now.now.style name.now }
+    {
+        if self.ctx.style().macros().len() <= MOST_LISTED {
+            CallKey::Name(name)
+        } else {
+            CallKey::Place(macro_place(self.ctx, name))
+        }
+    }
+
+    /// The result for a text that calls a macro, if the dry run has kept it.
+    pub(crate) fn cached_call(&self, key: CallKey<'s>) -> Option<NodeInfo>
+        ensures { IfSome result (IsCallInfo (render_input T.answers self.now.now)
+            (dry_now self.now.now) (nodes_of self.now.now.style key.entry)) }
+    {
+        match key {
+            CallKey::Name(name) => self.listed_call(name),
+            CallKey::Place(place) => self.mapped_call(place),
+        }
+    }
+
+    /// The result for a text that calls the macro of a name, if the list has it.
+    fn listed_call(&self, name: &str) -> Option<NodeInfo>
+        ensures { IfSome result (IsCallInfo (render_input T.answers self.now.now)
+            (dry_now self.now.now) (macro_env self.now.now.style name.now)) }
+    {
+        for call in &self.listed {
+            if call.name == name {
+                return Some(call.info);
+            }
+        }
+        None
+    }
+
+    /// The result for a text that calls the macro at a place, if the map has it.
+    fn mapped_call(&self, place: Option<usize>) -> Option<NodeInfo>
         ensures { IfSome result (IsCallInfo (render_input T.answers self.now.now)
             (dry_now self.now.now) (nodes_at self.now.now.style place)) }
     {
         let place = place?;
-        self.calls.get(&place).copied()
+        self.mapped.get(&place).copied()
     }
 
-    /// Keeps the result for a text that calls the macro at a place, if there is one.
-    pub(crate) fn cache_call(&mut self, place: Option<usize>, info: NodeInfo) -> Result<(), Memory>
+    /// Keeps the result for a text that calls a macro.
+    pub(crate) fn cache_call(&mut self, key: CallKey<'s>, info: NodeInfo) -> Result<(), Memory>
+        requires { IsCallInfo (render_input T.answers self.old.now) (dry_now self.old.now)
+            (nodes_of self.old.now.style key) info }
+        ensures { self.new ≡ self.old }
+    {
+        match key {
+            CallKey::Name(name) => self.list_call(name, info),
+            CallKey::Place(place) => self.map_call(place, info),
+        }
+    }
+
+    /// Keeps the result for a text that calls the macro of a name in the list.
+    fn list_call(&mut self, name: &'s str, info: NodeInfo) -> Result<(), Memory>
+        requires { IsCallInfo (render_input T.answers self.old.now) (dry_now self.old.now)
+            (macro_env self.old.now.style name.now) info }
+        ensures { self.new ≡ self.old }
+    {
+        make_room_at(&mut self.listed, 0, ROOM_FOR_CALLS)?;
+        self.listed.push(KeptCall { name, info })?;
+        Ok(())
+    }
+
+    /// Keeps the result for a text that calls the macro at a place in the map, if there is one.
+    fn map_call(&mut self, place: Option<usize>, info: NodeInfo) -> Result<(), Memory>
         requires { IsCallInfo (render_input T.answers self.old.now) (dry_now self.old.now)
             (nodes_at self.old.now.style place) info }
         ensures { self.new ≡ self.old }
     {
         if let Some(place) = place {
-            self.calls.insert(place, info)?;
+            self.mapped.insert(place, info)?;
         }
         Ok(())
     }
