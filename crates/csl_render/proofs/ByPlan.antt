@@ -12,7 +12,7 @@ use Rattle.csl_context.specs.declared.error.RenderError.{RenderError}
 use Rattle.csl_context.specs.declared.error.RenderError.TheVariants.{Memory, Failed}
 use Rattle.csl_render.specs.declared.plan.NodePlan.{NodePlan}
 use Rattle.csl_render.specs.declared.plan.PlanItem.{PlanItem}
-use Rattle.csl_render.specs.Plan.{DryView, dry_view, AreInside, AreItems, AreOfTaken, IsPlan, HasPlans, HasPlansOfSubstitutes}
+use Rattle.csl_render.specs.Plan.{DryView, dry_view, AreItemsInside, AreItems, AreItemsIfTaken, IsPlan, HasPlans, HasPlansOfSubstitutes}
 use Rattle.csl_render.specs.Names.{expanded_substitutes_of}
 use Rattle.csl_render.proofs.Within.{planned_by}
 
@@ -23,10 +23,10 @@ substitute_planned w env x ns here None h = tt
 substitute_planned w env x ns here (Some p) h =
     let at = dry_view p.now.inside.at.now in
     let is = p.now.inside.items.now in
-    subst (λ o. AreOfTaken w at (option_map (expand_nodes env) o) is) (sym here) (planned_by env (names_node x) w at (names_substitutes x) is h)
+    subst (λ o. AreItemsIfTaken w at (option_map (expand_nodes env) o) is) (sym here) (planned_by env (names_node x) w at (names_substitutes x) is h)
 
 -- the plan of a choice is that of the nodes that it takes
-pub taken_planned : (w : RenderInput) (s : State) (f : ExpandedNode) (fs : ExpandedNodes) → ((at : DryView) → (is : List PlanItem) → AreInside w at s f is → AreItems w at fs is)
+pub taken_planned : (w : RenderInput) (s : State) (f : ExpandedNode) (fs : ExpandedNodes) → ((at : DryView) → (is : List PlanItem) → AreItemsInside w at s f is → AreItems w at fs is)
     → (plan : Option (Bor NodePlan)) → IfSome plan (λ p. IsPlan w s f p.now) → IfSome plan (λ p. HasPlans w fs p.now)
 taken_planned w s f fs planned None h = tt
 taken_planned w s f fs planned (Some p) h = planned (dry_view p.now.inside.at.now) p.now.inside.items.now h.2

@@ -33,7 +33,7 @@ use Rattle.csl_render.specs.declared.plan.PlanItem.{PlanItem}
 use Rattle.csl_render.specs.DryRun.{Adds, Run}
 use Rattle.csl_render.specs.Names.{author, has_variable, is_refused, names_show, names_or_substitute_info, expanded_substitutes_of}
 use Rattle.csl_elements.specs.declared.variable_set.VariableSet.{VariableSet}
-use Rattle.csl_render.specs.Plan.{DryView, asks_for_author, dry, dry_now, dry_view, AreSuppressedAlike, AreAlikeOn, HasTested, HasAllTested, TellsAuthor, answer_of, AreInside, AreItems, AreTaken, AreOfTaken, AreOfSubstitutes, IsInfo, IsInfoOfNodes, IsInfoOfSubstitutes, IsDryRun}
+use Rattle.csl_render.specs.Plan.{DryView, asks_for_author, state_for_dry_run, dry_now, dry_view, AreSuppressedAlike, AreAlikeOn, HasTested, HasAllTested, TellsAuthor, answer_of, AreItemsInside, AreItems, AreItemsOfBranches, AreItemsIfTaken, AreItemsOfSubstitutes, IsInfo, IsInfoOfNodes, IsInfoOfSubstitutes, IsDryRun}
 use Rattle.csl_render.specs.Tree.{info, nodes_info, substitute_info, choice_info, shows, any_shows, substitute_shows, choice_shows}
 use Rattle.csl_elements.specs.VariableSet.{Has, IsWithin}
 use Rattle.csl_render.proofs.Chosen.{IsChoice, is_choice, choice_out, info_of_choice, shows_of_choice}
@@ -49,11 +49,11 @@ module _ (w : RenderInput) (d : DryView) where
   no_items no_expanded_nodes = tt
   no_items (expanded_node f fs) = tt
 
-  no_case : (s : State) (b : Bool) (fs : ExpandedNodes) (cs : ExpandedBranches) → AreTaken w d s cs [] → MatchBool b (AreItems w d fs []) (AreTaken w d s cs [])
+  no_case : (s : State) (b : Bool) (fs : ExpandedNodes) (cs : ExpandedBranches) → AreItemsOfBranches w d s cs [] → MatchBool b (AreItems w d fs []) (AreItemsOfBranches w d s cs [])
   no_case s true fs cs h = no_items fs
   no_case s false fs cs h = h
 
-  no_taken : (s : State) (cs : ExpandedBranches) → AreTaken w d s cs []
+  no_taken : (s : State) (cs : ExpandedBranches) → AreItemsOfBranches w d s cs []
   no_taken s no_expanded_branches = tt
   no_taken s (expanded_otherwise fs) = no_items fs
   no_taken s (expanded_branch ts fs cs) = no_case s (branch_matches w s ts) fs cs (no_taken s cs)
@@ -62,11 +62,11 @@ module _ (w : RenderInput) (d : DryView) where
   unplanned fs [] e = no_items fs
   unplanned fs (i ∷ is) e = absurd (omega (arith, e))
 
-  pub none_of_substitutes : (ss : ExpandedSubstitutes) → AreOfSubstitutes w d ss []
+  pub none_of_substitutes : (ss : ExpandedSubstitutes) → AreItemsOfSubstitutes w d ss []
   none_of_substitutes no_expanded_substitutes = tt
   none_of_substitutes (expanded_substitute fs ss) = no_items fs
 
-  pub none_inside : (s : State) (f : ExpandedNode) → AreInside w d s f []
+  pub none_inside : (s : State) (f : ExpandedNode) → AreItemsInside w d s f []
   none_inside s (expanded_text t e) = tt
   none_inside s (expanded_macro fs e) = no_items fs
   none_inside s unknown_macro = tt
@@ -133,7 +133,7 @@ nodes_from env ns i x within is = at_drop_more (λ l. expand_nodes env (view_nod
 pub first_planned : (w : RenderInput) (d : DryView) (f : ExpandedNode) (fs : ExpandedNodes) (i : NodeInfo) (inside others : List PlanItem) → IsInfo w d f i inside → AreItems w d fs others → AreItems w d (expanded_node f fs) (record { info = i; inside = length inside } ∷ (inside ++ others))
 first_planned w d f fs i inside others one rest = (
   (let long = length-append inside others in omega (arith, long)),
-  (λ s alike. subst (λ is. (answer_of i ≡ info w s f) × TellsAuthor w i.shows_author (shows w s author f) × AreInside w d s f is) (sym (take_at inside others (length inside) refl)) (one s alike)),
+  (λ s alike. subst (λ is. (answer_of i ≡ info w s f) × TellsAuthor w i.shows_author (shows w s author f) × AreItemsInside w d s f is) (sym (take_at inside others (length inside) refl)) (one s alike)),
   subst (λ is. AreItems w d fs is) (sym (drop_at inside others (length inside) refl)) rest,
 )
 
@@ -155,11 +155,11 @@ one_more w d f fs rest all i start now next from before more =
 -- ---- a plan of a node
 
 -- the plan of the nodes inside names is that of their first substitute
-pub substitutes_inside : (w : RenderInput) (d : DryView) (s : State) (env : List ℕ → Option ExpandedNodes) (x : Names) (is : List PlanItem) → AreInside w d s (expand env (view_names x)) is → AreOfSubstitutes w d (expanded_substitutes_of env x) is
-substitutes_inside w d s env x is h = subst (λ n. AreInside w d s (expand env n) is) (names_view x) h
+pub substitutes_inside : (w : RenderInput) (d : DryView) (s : State) (env : List ℕ → Option ExpandedNodes) (x : Names) (is : List PlanItem) → AreItemsInside w d s (expand env (view_names x)) is → AreItemsOfSubstitutes w d (expanded_substitutes_of env x) is
+substitutes_inside w d s env x is h = subst (λ n. AreItemsInside w d s (expand env n) is) (names_view x) h
 
-pub names_asked : (w : RenderInput) (d : DryView) (s : State) (env : List ℕ → Option ExpandedNodes) (x : Names) (is : List PlanItem) → AreOfSubstitutes w d (expanded_substitutes_of env x) is → AreInside w d s (expand env (view_names x)) is
-names_asked w d s env x is h = subst (λ n. AreInside w d s (expand env n) is) (sym (names_view x)) h
+pub names_asked : (w : RenderInput) (d : DryView) (s : State) (env : List ℕ → Option ExpandedNodes) (x : Names) (is : List PlanItem) → AreItemsOfSubstitutes w d (expanded_substitutes_of env x) is → AreItemsInside w d s (expand env (view_names x)) is
+names_asked w d s env x is h = subst (λ n. AreItemsInside w d s (expand env n) is) (sym (names_view x)) h
 
 -- what a dry run from an empty plan gives
 pub asked : {T : Type 0} (answers : T → Answers) (now : ContextView T) (f : ExpandedNode) (i : NodeInfo) (end : Run T) (r : OwnedPlan) → Adds (IsInfo (render_input answers now) (dry_now now) f i) (record { now = now; items = [] }) end
@@ -169,7 +169,7 @@ asked answers now f i end r h at answer told inside =
     let holds = h.hold now.state (alike_to_itself w i.read now.state) in (
       ap info_view answer ∙ holds.0,
       λ asks. told ∙ holds.1 asks,
-      subst (λ d. AreInside w d now.state f r.inside.items) (sym at) (subst (AreInside w (dry_now now) now.state f) (sym (inside ∙ ap (λ r. r.items) h.added)) holds.2),
+      subst (λ d. AreItemsInside w d now.state f r.inside.items) (sym at) (subst (AreItemsInside w (dry_now now) now.state f) (sym (inside ∙ ap (λ r. r.items) h.added)) holds.2),
     )
 
 -- ---- the nodes that a choice takes
@@ -177,38 +177,38 @@ asked answers now f i end r h at answer told inside =
 module _ (w : RenderInput) (env : List ℕ → Option ExpandedNodes) (d : DryView) (s : State) (is : List PlanItem) where
   -- the results for the nodes that are taken in a state, by those for the choice
   taken_here : (b : Bool) (fs : ExpandedNodes) (cs : ExpandedBranches) (ns : Nodes) (o : Option Nodes) → fs ≡ expand_nodes env ns
-      → (AreTaken w d s cs is → AreOfTaken w d (option_map (expand_nodes env) o) is)
-      → MatchBool b (AreItems w d fs is) (AreTaken w d s cs is) → AreOfTaken w d (option_map (expand_nodes env) (if b then Some ns else o)) is
+      → (AreItemsOfBranches w d s cs is → AreItemsIfTaken w d (option_map (expand_nodes env) o) is)
+      → MatchBool b (AreItems w d fs is) (AreItemsOfBranches w d s cs is) → AreItemsIfTaken w d (option_map (expand_nodes env) (if b then Some ns else o)) is
   taken_here true fs cs ns o f k h = subst (λ x. AreItems w d x is) f h
   taken_here false fs cs ns o f k h = k h
 
-  of_branches : (bs : Branches) → AreTaken w d s (expand_branches env bs) is → AreOfTaken w d (option_map (expand_nodes env) (chosen_nodes w s bs)) is
+  of_branches : (bs : Branches) → AreItemsOfBranches w d s (expand_branches env bs) is → AreItemsIfTaken w d (option_map (expand_nodes env) (chosen_nodes w s bs)) is
   of_branches no_branches h = tt
   of_branches (otherwise ns) h = h
   of_branches (branch ts ns bs) h = taken_here (branch_matches w s ts) _ _ ns (chosen_nodes w s bs) refl (of_branches bs) h
 
-  of_node : (n : Node) → IsChoice n → AreInside w d s (expand env n) is → AreOfTaken w d (option_map (expand_nodes env) (chosen_children w s n)) is
+  of_node : (n : Node) → IsChoice n → AreItemsInside w d s (expand env n) is → AreItemsIfTaken w d (option_map (expand_nodes env) (chosen_children w s n)) is
   of_node n (bs, e) h = rw e (of_branches bs (rw e at h))
 
-  pub planned_nodes : (c : Choose) → AreInside w d s (expand env (view_choose c)) is → AreOfTaken w d (option_map (expand_nodes env) (chosen_children w s (view_choose c))) is
+  pub planned_nodes : (c : Choose) → AreItemsInside w d s (expand env (view_choose c)) is → AreItemsIfTaken w d (option_map (expand_nodes env) (chosen_children w s (view_choose c))) is
   planned_nodes c = of_node (view_choose c) (is_choice c)
 
   -- and the other way round
   asked_here : (b : Bool) (fs : ExpandedNodes) (cs : ExpandedBranches) (ns : Nodes) (o : Option Nodes) → fs ≡ expand_nodes env ns
-      → (AreOfTaken w d (option_map (expand_nodes env) o) is → AreTaken w d s cs is)
-      → AreOfTaken w d (option_map (expand_nodes env) (if b then Some ns else o)) is → MatchBool b (AreItems w d fs is) (AreTaken w d s cs is)
+      → (AreItemsIfTaken w d (option_map (expand_nodes env) o) is → AreItemsOfBranches w d s cs is)
+      → AreItemsIfTaken w d (option_map (expand_nodes env) (if b then Some ns else o)) is → MatchBool b (AreItems w d fs is) (AreItemsOfBranches w d s cs is)
   asked_here true fs cs ns o f k h = subst (λ x. AreItems w d x is) (sym f) h
   asked_here false fs cs ns o f k h = k h
 
-  to_branches : (bs : Branches) → AreOfTaken w d (option_map (expand_nodes env) (chosen_nodes w s bs)) is → AreTaken w d s (expand_branches env bs) is
+  to_branches : (bs : Branches) → AreItemsIfTaken w d (option_map (expand_nodes env) (chosen_nodes w s bs)) is → AreItemsOfBranches w d s (expand_branches env bs) is
   to_branches no_branches h = tt
   to_branches (otherwise ns) h = h
   to_branches (branch ts ns bs) h = asked_here (branch_matches w s ts) _ _ ns (chosen_nodes w s bs) refl (to_branches bs) h
 
-  to_node : (n : Node) → IsChoice n → AreOfTaken w d (option_map (expand_nodes env) (chosen_children w s n)) is → AreInside w d s (expand env n) is
+  to_node : (n : Node) → IsChoice n → AreItemsIfTaken w d (option_map (expand_nodes env) (chosen_children w s n)) is → AreItemsInside w d s (expand env n) is
   to_node n (bs, e) h = rw e (to_branches bs (rw e at h))
 
-  pub asked_nodes : (c : Choose) → AreOfTaken w d (option_map (expand_nodes env) (chosen_children w s (view_choose c))) is → AreInside w d s (expand env (view_choose c)) is
+  pub asked_nodes : (c : Choose) → AreItemsIfTaken w d (option_map (expand_nodes env) (chosen_children w s (view_choose c))) is → AreItemsInside w d s (expand env (view_choose c)) is
   asked_nodes c = to_node (view_choose c) (is_choice c)
 
 -- a choice takes the same nodes in two states that suppress the same of the variables that it tests
@@ -238,30 +238,30 @@ module _ (w : RenderInput) (d : DryView) (i r : NodeInfo) (read : r.read ≡ i.r
 
 -- the result for a choice, by that for the nodes that it takes in the state of the dry run
 pub around_taken : (w : RenderInput) (s : State) (env : List ℕ → Option ExpandedNodes) (c : Choose) (taken : Option Nodes) (tested : VariableSet) (r : NodeInfo) (is : List PlanItem) → HasAllTested tested c → IsWithin tested r.read → taken ≡ chosen_children w s (view_choose c)
-    → ((u : State) → AreAlikeOn w r.read (dry w.instance.special s) u → (answer_of r ≡ choice_info w u (option_map (expand_nodes env) taken)) × TellsAuthor w r.shows_author (choice_shows w u author (option_map (expand_nodes env) taken)))
-    → AreOfTaken w (dry w.instance.special s) (option_map (expand_nodes env) taken) is → IsInfo w (dry w.instance.special s) (expand env (view_choose c)) r is
+    → ((u : State) → AreAlikeOn w r.read (state_for_dry_run w.instance.special s) u → (answer_of r ≡ choice_info w u (option_map (expand_nodes env) taken)) × TellsAuthor w r.shows_author (choice_shows w u author (option_map (expand_nodes env) taken)))
+    → AreItemsIfTaken w (state_for_dry_run w.instance.special s) (option_map (expand_nodes env) taken) is → IsInfo w (state_for_dry_run w.instance.special s) (expand env (view_choose c)) r is
 around_taken w s env c taken tested r is has within here tells inside u alike =
     let there = here ∙ same_chosen w s u tested (λ v h. alike.1 v (within v h)) c has in
     let told = tells u alike in (
       told.0 ∙ ap (λ o. choice_info w u (option_map (expand_nodes env) o)) there ∙ sym (info_of_choice w u env c),
       λ asks. told.1 asks ∙ ap (λ o. choice_shows w u author (option_map (expand_nodes env) o)) there ∙ sym (shows_of_choice w u env author c),
-      asked_nodes w env (dry w.instance.special s) u is c (subst (λ o. AreOfTaken w (dry w.instance.special s) (option_map (expand_nodes env) o) is) there inside),
+      asked_nodes w env (state_for_dry_run w.instance.special s) u is c (subst (λ o. AreItemsIfTaken w (state_for_dry_run w.instance.special s) (option_map (expand_nodes env) o) is) there inside),
     )
 
 -- the result for substitutes, by that for the nodes that they take
-around_first : (w : RenderInput) (d : DryView) (ss : ExpandedSubstitutes) (taken : Option ExpandedNodes) (r : NodeInfo) (is : List PlanItem) → ((u : State) → substitute_info w u ss ≡ choice_info w u taken) → ((u : State) → substitute_shows w u author ss ≡ choice_shows w u author taken) → (AreOfTaken w d taken is → AreOfSubstitutes w d ss is)
-    → ((u : State) → AreAlikeOn w r.read d u → (answer_of r ≡ choice_info w u taken) × TellsAuthor w r.shows_author (choice_shows w u author taken)) → AreOfTaken w d taken is → IsInfoOfSubstitutes w d ss r is
+around_first : (w : RenderInput) (d : DryView) (ss : ExpandedSubstitutes) (taken : Option ExpandedNodes) (r : NodeInfo) (is : List PlanItem) → ((u : State) → substitute_info w u ss ≡ choice_info w u taken) → ((u : State) → substitute_shows w u author ss ≡ choice_shows w u author taken) → (AreItemsIfTaken w d taken is → AreItemsOfSubstitutes w d ss is)
+    → ((u : State) → AreAlikeOn w r.read d u → (answer_of r ≡ choice_info w u taken) × TellsAuthor w r.shows_author (choice_shows w u author taken)) → AreItemsIfTaken w d taken is → IsInfoOfSubstitutes w d ss r is
 around_first w d ss taken r is same shown from tells inside = (λ u alike. ((tells u alike).0 ∙ sym (same u), λ asks. (tells u alike).1 asks ∙ sym (shown u)), from inside)
 
 -- the result for the substitutes of a names node, by that for the children of the first
 pub around_substitute : (w : RenderInput) (d : DryView) (env : List ℕ → Option ExpandedNodes) (x : Names) (taken : Option Nodes) (r : NodeInfo) (is : List PlanItem) → taken ≡ first_substitute (names_substitutes x)
     → ((u : State) → AreAlikeOn w r.read d u → (answer_of r ≡ choice_info w u (option_map (expand_nodes env) taken)) × TellsAuthor w r.shows_author (choice_shows w u author (option_map (expand_nodes env) taken)))
-    → AreOfTaken w d (option_map (expand_nodes env) taken) is → IsInfoOfSubstitutes w d (expanded_substitutes_of env x) r is
+    → AreItemsIfTaken w d (option_map (expand_nodes env) taken) is → IsInfoOfSubstitutes w d (expanded_substitutes_of env x) r is
 around_substitute w d env x taken r is here tells inside =
     around_first w d (expanded_substitutes_of env x) (option_map (expand_nodes env) taken) r is
     (λ u. info_by env (names_node x) w u (names_substitutes x) ∙ ap (λ o. choice_info w u (option_map (expand_nodes env) o)) (sym here))
     (λ u. shows_of_substitute env x w u author ∙ ap (λ o. choice_shows w u author (option_map (expand_nodes env) o)) (sym here))
-    (λ h. asked_by env (names_node x) w d (names_substitutes x) is (subst (λ o. AreOfTaken w d (option_map (expand_nodes env) o) is) here h))
+    (λ h. asked_by env (names_node x) w d (names_substitutes x) is (subst (λ o. AreItemsIfTaken w d (option_map (expand_nodes env) o) is) here h))
     tells inside
 
 -- ---- names
@@ -291,11 +291,11 @@ module _ (n : NamesNode) (ss : ExpandedSubstitutes) where
 
     names_told : (s : State) (own : VariableSet) (empty void : Bool) (r : NodeInfo) (is : List PlanItem) → Each (λ v. Has own (variable.Name v)) n.variables → IsWithin own r.read
         → empty ≡ all_empty (peeked_lists w s n.variables) → void ≡ writes_no_name n (peeked_lists w s n.variables)
-        → ((u : State) → AreAlikeOn w r.read (dry w.instance.special s) u → (answer_of r ≡ told_by empty void u) × TellsAuthor w r.shows_author (shown_by empty u))
-        → AreOfSubstitutes w (dry w.instance.special s) ss is → IsInfo w (dry w.instance.special s) (expanded_names n ss) r is
+        → ((u : State) → AreAlikeOn w r.read (state_for_dry_run w.instance.special s) u → (answer_of r ≡ told_by empty void u) × TellsAuthor w r.shows_author (shown_by empty u))
+        → AreItemsOfSubstitutes w (state_for_dry_run w.instance.special s) ss is → IsInfo w (state_for_dry_run w.instance.special s) (expanded_names n ss) r is
     names_told s own empty void r is has within empties voids tells inside u alike =
         let told = tells u alike in
-        let lists = lists_same w s u own (alike_within w own r.read (dry w.instance.special s) u within alike).1 n.variables has in (
+        let lists = lists_same w s u own (alike_within w own r.read (state_for_dry_run w.instance.special s) u within alike).1 n.variables has in (
           told.0
               ∙ ap (λ b. told_by empty b u) voids
               ∙ ap (λ b. told_by b (writes_no_name n (peeked_lists w s n.variables)) u) empties
@@ -307,8 +307,8 @@ module _ (n : NamesNode) (ss : ExpandedSubstitutes) where
 -- the result for names, by what the dry run finds of their lists, and the result for their substitutes
 pub around_names : (w : RenderInput) (s : State) (env : List ℕ → Option ExpandedNodes) (x : Names) (own : VariableSet) (empty void : Bool) (r : NodeInfo) (is : List PlanItem) → Each (λ v. Has own (variable.Name v)) (names_node x).variables → IsWithin own r.read
     → empty ≡ all_empty (peeked_lists w s (names_node x).variables) → void ≡ writes_no_name (names_node x) (peeked_lists w s (names_node x).variables)
-    → ((u : State) → AreAlikeOn w r.read (dry w.instance.special s) u
+    → ((u : State) → AreAlikeOn w r.read (state_for_dry_run w.instance.special s) u
     → (answer_of r ≡ told_by (names_node x) (expanded_substitutes_of env x) w empty void u) × TellsAuthor w r.shows_author (shown_by (names_node x) (expanded_substitutes_of env x) w empty u))
-    → AreOfSubstitutes w (dry w.instance.special s) (expanded_substitutes_of env x) is → IsInfo w (dry w.instance.special s) (expand env (view_names x)) r is
+    → AreItemsOfSubstitutes w (state_for_dry_run w.instance.special s) (expanded_substitutes_of env x) is → IsInfo w (state_for_dry_run w.instance.special s) (expand env (view_names x)) r is
 around_names w s env x own empty void r is has within empties voids tells inside =
-    subst (λ m. IsInfo w (dry w.instance.special s) (expand env m) r is) (sym (names_view x)) (names_told (names_node x) (expanded_substitutes_of env x) w s own empty void r is has within empties voids tells inside)
+    subst (λ m. IsInfo w (state_for_dry_run w.instance.special s) (expand env m) r is) (sym (names_view x)) (names_told (names_node x) (expanded_substitutes_of env x) w s own empty void r is has within empties voids tells inside)

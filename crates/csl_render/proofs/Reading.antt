@@ -35,7 +35,7 @@ use Rattle.csl_nodes.specs.Number.{presence_info, shows_own, number_info}
 use Rattle.csl_nodes.specs.Text.{standard_text, number_result, shows_variable, calls, resolved_variable, resolved_text, resolved_info, is_of, target_info}
 use Rattle.csl_elements.specs.declared.variable_set.VariableSet.{VariableSet}
 use Rattle.csl_render.specs.Names.{is_refused, names_show}
-use Rattle.csl_render.specs.Plan.{DryView, asks_for_dates, asks_for_author, dry, AreSuppressedAlike, AreAlikeOn, HasTested}
+use Rattle.csl_render.specs.Plan.{DryView, asks_for_dates, asks_for_author, state_for_dry_run, AreSuppressedAlike, AreAlikeOn, HasTested}
 use Rattle.csl_render.specs.Tree.{shows, any_shows, branches_show, substitute_shows}
 use Rattle.csl_elements.specs.VariableSet.{Has, IsWithin}
 use Rattle.csl_render.proofs.VariableSets.{each_of}
@@ -220,7 +220,7 @@ pub alike_within : (w : RenderInput) (a b : VariableSet) (d : DryView) (s : Stat
 alike_within w a b d s within h = (h.0, λ v has. h.1 v (within v has))
 
 -- what dry runs read of a state is alike to the state
-pub alike_to_itself : (w : RenderInput) (read : VariableSet) (s : State) → AreAlikeOn w read (dry w.instance.special s) s
+pub alike_to_itself : (w : RenderInput) (read : VariableSet) (s : State) → AreAlikeOn w read (state_for_dry_run w.instance.special s) s
 alike_to_itself w read s = (refl, λ v has. refl)
 
 pub double_not : (b : Bool) → not (not b) ≡ b

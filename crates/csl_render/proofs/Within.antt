@@ -15,7 +15,7 @@ use Rattle.csl_nodes.specs.Usage.{info_union, as_child_info, without_group_flag}
 use Rattle.csl_render.specs.Names.{is_names_of, any_is_names_of, choice_is_names_of, substitute_has_names_of, expanded_substitutes_of}
 use Rattle.csl_render.specs.declared.plan.NodeInfo.{NodeInfo}
 use Rattle.csl_render.specs.declared.plan.PlanItem.{PlanItem}
-use Rattle.csl_render.specs.Plan.{DryView, AreItems, AreOfTaken, AreOfSubstitutes, IsInfo}
+use Rattle.csl_render.specs.Plan.{DryView, AreItems, AreItemsIfTaken, AreItemsOfSubstitutes, IsInfo}
 use Rattle.csl_render.specs.Tree.{is_group, info, nodes_info, shows, any_shows, substitute_info, substitute_shows, substitute_output, choice_info, choice_shows, first_substitute_output}
 
 -- names with a substitute have children
@@ -99,11 +99,11 @@ module _ (env : List ℕ → Option ExpandedNodes) (original : NamesNode) where
     asked_within (node n ns) [] h = tt
     asked_within (node n ns) (i ∷ is) h = (h.0, (within_both i.info (take i.inside is) n).1 h.1, asked_within ns (drop i.inside is) h.2)
 
-    pub planned_by : (ss : Substitutes) (is : List PlanItem) → AreOfSubstitutes w d (expand_substitutes env original ss) is → AreOfTaken w d (option_map (expand_nodes env) (first_substitute ss)) is
+    pub planned_by : (ss : Substitutes) (is : List PlanItem) → AreItemsOfSubstitutes w d (expand_substitutes env original ss) is → AreItemsIfTaken w d (option_map (expand_nodes env) (first_substitute ss)) is
     planned_by no_substitutes is h = tt
     planned_by (substitute ns ss) is h = planned_within ns is h
 
-    pub asked_by : (ss : Substitutes) (is : List PlanItem) → AreOfTaken w d (option_map (expand_nodes env) (first_substitute ss)) is → AreOfSubstitutes w d (expand_substitutes env original ss) is
+    pub asked_by : (ss : Substitutes) (is : List PlanItem) → AreItemsIfTaken w d (option_map (expand_nodes env) (first_substitute ss)) is → AreItemsOfSubstitutes w d (expand_substitutes env original ss) is
     asked_by no_substitutes is h = tt
     asked_by (substitute ns ss) is h = asked_within ns is h
 

@@ -1,13 +1,14 @@
 -- A *plan* is the result of a dry run for a node and for the nodes inside it. By its plan a node is
 -- rendered without another dry run (CSL 1.0.2, Group). A dry run reads two things of a state
--- (`dry`): the suppressed variables and, under two special forms, whether a date was rendered. A
--- result has the set of the variables that its dry run read. It is the same in each state that
--- agrees on them and on the date (`AreAlikeOn`). So a variable that names in a substitute suppress
--- ends the plans of the nodes that read it, and leaves those whose set is without it. In a cite that
--- suppresses the author a result also tells whether the node shows the author (`TellsAuthor`): names
--- that do are refused. All results of a dry run stand in one list, in the order of the nodes: each
--- before those for the nodes inside its node. The results for a list of nodes may break off. The
--- nodes after its end have no plan. Only private contracts cite these definitions.
+-- (`state_for_dry_run`): the suppressed variables and, under two special forms, whether a date was
+-- rendered. A result has the set of the variables that its dry run read. It is the same in each
+-- state that agrees on them and on the date (`AreAlikeOn`). So a variable that names in a
+-- substitute suppress ends the plans of the nodes that read it, and leaves those whose set is
+-- without it. In a cite that suppresses the author a result also tells whether the node shows the
+-- author (`TellsAuthor`): names that do are refused. All results of a dry run stand in one list, in
+-- the order of the nodes: each before those for the nodes inside its node. The results for a list
+-- of nodes may break off. The nodes after its end have no plan. Only private contracts cite these
+-- definitions.
 use Rattle.std.specs.Prelude.{◌≡◌, ◌≤◌, ⊤, Bool, true, false, ◌&&◌, List, [], ◌∷◌, length, take, drop, Option, Some, None}
 use Rattle.std.specs.Bool.{MatchBool}
 use Rattle.csl_elements.specs.declared.element.Choose.{Choose, out-Choose}
@@ -52,8 +53,8 @@ pub record DryView : Type 0 where
   pub suppressed : Variable → Bool
   pub first_date_seen : Bool
 
-abbrev pub dry : Option SpecialForm → State → DryView
-dry special s = record {
+abbrev pub state_for_dry_run : Option SpecialForm → State → DryView
+state_for_dry_run special s = record {
   suppressed = s.suppressed;
   first_date_seen = asks_for_dates special && s.first_date_seen;
 }
@@ -67,7 +68,7 @@ AreSuppressedAlike read s t = (v : Variable) → Has read v → is_suppressed s 
 
 -- dry runs that read these variables read `d` of the state
 abbrev pub AreAlikeOn : RenderInput → VariableSet → DryView → State → Type 0
-AreAlikeOn w read d s = (d.first_date_seen ≡ (dry w.instance.special s).first_date_seen) × ((v : Variable) → Has read v → d.suppressed v ≡ is_suppressed s v)
+AreAlikeOn w read d s = (d.first_date_seen ≡ (state_for_dry_run w.instance.special s).first_date_seen) × ((v : Variable) → Has read v → d.suppressed v ≡ is_suppressed s v)
 
 -- the set has the variables that the tests of a branch, or of a choice, look up
 abbrev pub HasTested : VariableSet → Tests → Type 0
@@ -99,17 +100,17 @@ module _ (w : RenderInput) (d : DryView) where
     -- The items for the nodes inside a node, in a state in which they hold: the children of a group,
     -- the nodes of a macro, the nodes that a choice takes, and the children of the first substitute
     -- of names.
-    pub AreInside : State → ExpandedNode → List PlanItem → Type 0
-    AreInside s (expanded_text t e) is = ⊤
-    AreInside s (expanded_macro fs e) is = AreItems fs is
-    AreInside s unknown_macro is = ⊤
-    AreInside s (expanded_number n) is = ⊤
-    AreInside s (expanded_label v l) is = ⊤
-    AreInside s (expanded_date n) is = ⊤
-    AreInside s (expanded_names n ss) is = AreOfSubstitutes ss is
-    AreInside s (shorthand written n) is = ⊤
-    AreInside s (expanded_choose cs) is = AreTaken s cs is
-    AreInside s (expanded_group delimiter e fs) is = AreItems fs is
+    pub AreItemsInside : State → ExpandedNode → List PlanItem → Type 0
+    AreItemsInside s (expanded_text t e) is = ⊤
+    AreItemsInside s (expanded_macro fs e) is = AreItems fs is
+    AreItemsInside s unknown_macro is = ⊤
+    AreItemsInside s (expanded_number n) is = ⊤
+    AreItemsInside s (expanded_label v l) is = ⊤
+    AreItemsInside s (expanded_date n) is = ⊤
+    AreItemsInside s (expanded_names n ss) is = AreItemsOfSubstitutes ss is
+    AreItemsInside s (shorthand written n) is = ⊤
+    AreItemsInside s (expanded_choose cs) is = AreItemsOfBranches s cs is
+    AreItemsInside s (expanded_group delimiter e fs) is = AreItems fs is
 
     -- Each node has its result, then the items for the nodes inside it. The last nodes may have
     -- none.
@@ -118,26 +119,26 @@ module _ (w : RenderInput) (d : DryView) where
     AreItems (expanded_node f fs) [] = ⊤
     AreItems (expanded_node f fs) (i ∷ is) =
         (i.inside ≤ length is)
-        × ((s : State) → AreAlikeOn w i.info.read d s → (answer_of i.info ≡ info w s f) × TellsAuthor w i.info.shows_author (shows w s author f) × AreInside s f (take i.inside is))
+        × ((s : State) → AreAlikeOn w i.info.read d s → (answer_of i.info ≡ info w s f) × TellsAuthor w i.info.shows_author (shows w s author f) × AreItemsInside s f (take i.inside is))
         × AreItems fs (drop i.inside is)
 
-    pub AreTaken : State → ExpandedBranches → List PlanItem → Type 0
-    AreTaken s no_expanded_branches is = ⊤
-    AreTaken s (expanded_otherwise fs) is = AreItems fs is
-    AreTaken s (expanded_branch ts fs cs) is = MatchBool (branch_matches w s ts) (AreItems fs is) (AreTaken s cs is)
+    pub AreItemsOfBranches : State → ExpandedBranches → List PlanItem → Type 0
+    AreItemsOfBranches s no_expanded_branches is = ⊤
+    AreItemsOfBranches s (expanded_otherwise fs) is = AreItems fs is
+    AreItemsOfBranches s (expanded_branch ts fs cs) is = MatchBool (branch_matches w s ts) (AreItems fs is) (AreItemsOfBranches s cs is)
 
-    pub AreOfSubstitutes : ExpandedSubstitutes → List PlanItem → Type 0
-    AreOfSubstitutes no_expanded_substitutes is = ⊤
-    AreOfSubstitutes (expanded_substitute fs ss) is = AreItems fs is
+    pub AreItemsOfSubstitutes : ExpandedSubstitutes → List PlanItem → Type 0
+    AreItemsOfSubstitutes no_expanded_substitutes is = ⊤
+    AreItemsOfSubstitutes (expanded_substitute fs ss) is = AreItems fs is
 
   -- the items for the nodes that a choice takes, if it takes any, or for those of a substitute
-  abbrev pub AreOfTaken : Option ExpandedNodes → List PlanItem → Type 0
-  AreOfTaken None is = ⊤
-  AreOfTaken (Some fs) is = AreItems fs is
+  abbrev pub AreItemsIfTaken : Option ExpandedNodes → List PlanItem → Type 0
+  AreItemsIfTaken None is = ⊤
+  AreItemsIfTaken (Some fs) is = AreItems fs is
 
   -- the result for a node, and the items for the nodes inside it
   abbrev pub IsInfo : ExpandedNode → NodeInfo → List PlanItem → Type 0
-  IsInfo f i is = (s : State) → AreAlikeOn w i.read d s → (answer_of i ≡ info w s f) × TellsAuthor w i.shows_author (shows w s author f) × AreInside s f is
+  IsInfo f i is = (s : State) → AreAlikeOn w i.read d s → (answer_of i ≡ info w s f) × TellsAuthor w i.shows_author (shows w s author f) × AreItemsInside s f is
 
   -- the result for nodes together, and the items for each
   abbrev pub IsInfoOfNodes : ExpandedNodes → NodeInfo → List PlanItem → Type 0
@@ -145,7 +146,7 @@ module _ (w : RenderInput) (d : DryView) where
 
   -- the result for substitutes, and the items for the children of the first
   abbrev pub IsInfoOfSubstitutes : ExpandedSubstitutes → NodeInfo → List PlanItem → Type 0
-  IsInfoOfSubstitutes ss i is = ((s : State) → AreAlikeOn w i.read d s → (answer_of i ≡ substitute_info w s ss) × TellsAuthor w i.shows_author (substitute_shows w s author ss)) × AreOfSubstitutes ss is
+  IsInfoOfSubstitutes ss i is = ((s : State) → AreAlikeOn w i.read d s → (answer_of i ≡ substitute_info w s ss) × TellsAuthor w i.shows_author (substitute_shows w s author ss)) × AreItemsOfSubstitutes ss is
 
 -- ---- plans
 
@@ -155,20 +156,20 @@ ArePlans w fs p = AreItems w (dry_view p.at.now) fs p.items.now
 
 -- a plan of a node that holds for a state
 abbrev pub IsPlan : RenderInput → State → ExpandedNode → NodePlan → Type 0
-IsPlan w s f p = (info_view p.answer ≡ info w s f) × TellsAuthor w p.shows_author (shows w s author f) × AreInside w (dry_view p.inside.at.now) s f p.inside.items.now
+IsPlan w s f p = (info_view p.answer ≡ info w s f) × TellsAuthor w p.shows_author (shows w s author f) × AreItemsInside w (dry_view p.inside.at.now) s f p.inside.items.now
 
 -- a plan of a node with plans of the nodes inside: of these, or of the first of these substitutes
 abbrev pub HasPlans : RenderInput → ExpandedNodes → NodePlan → Type 0
 HasPlans w fs p = ArePlans w fs p.inside
 
 abbrev pub HasPlansOfSubstitutes : RenderInput → ExpandedSubstitutes → NodePlan → Type 0
-HasPlansOfSubstitutes w ss p = AreOfSubstitutes w (dry_view p.inside.at.now) ss p.inside.items.now
+HasPlansOfSubstitutes w ss p = AreItemsOfSubstitutes w (dry_view p.inside.at.now) ss p.inside.items.now
 
 -- ---- plans in a context
 
 -- what dry runs read of the state of a context
 abbrev pub dry_now : {T : Type 0} → ContextView T → DryView
-dry_now now = dry now.special now.state
+dry_now now = state_for_dry_run now.special now.state
 
 module _ {T : Type 0} (answers : T → Answers) (now : ContextView T) where
   -- what a dry run of a node gives a plan that holds
@@ -176,7 +177,7 @@ module _ {T : Type 0} (answers : T → Answers) (now : ContextView T) where
   IsDryRun f r =
       (info_view r.answer ≡ info (render_input answers now) now.state f)
       × TellsAuthor (render_input answers now) r.shows_author (shows (render_input answers now) now.state author f)
-      × AreInside (render_input answers now) (dry_view r.at) now.state f r.inside.items
+      × AreItemsInside (render_input answers now) (dry_view r.at) now.state f r.inside.items
 
   abbrev pub IsDryRunOf : Node → OwnedPlan → Type 0
   IsDryRunOf n = IsDryRun (expanded now.style n)

@@ -11,7 +11,7 @@ ghost use Rattle.csl_context.specs.Context.{Reads, GivesBy, FailsSilently, rende
 ghost use Rattle.csl_nodes.specs.Condition as spec;
 ghost use Rattle.csl_render.specs.declared.plan.PlanItem.{PlanItem};
 ghost use Rattle.csl_render.specs.Expanded.{expanded, expanded_nodes, expanded_taken};
-ghost use Rattle.csl_render.specs.Plan.{DryView, HasTested, HasAllTested, AreInside, AreOfTaken};
+ghost use Rattle.csl_render.specs.Plan.{DryView, HasTested, HasAllTested, AreItemsInside, AreItemsIfTaken};
 ghost use Rattle.csl_elements.specs.VariableSet.{Has, IsWithin};
 ghost use Rattle.csl_render.specs.Tree.{shows, node_output, choice_shows, choice_output};
 
@@ -20,7 +20,7 @@ use crate::element::{any_shows, nodes_info, render_with_delimiter};
 use crate::node::Node;
 use crate::plan::{NodeInfo, NodePlan};
 use crate::query::Query;
-use crate::variable_set::{with_all, with_dates};
+use crate::variable_set::{with_dates, with_each};
 use csl_context::{Context, RenderError};
 use csl_entry::EntryLike;
 use csl_nodes::{branch_holds, no_info, push_nothing, without_group_flag};
@@ -88,9 +88,9 @@ fn chosen_children<'s, T: EntryLike>(
         ≡ choice_output (render_input T.answers ctx.now) (expanded_taken ctx.now.style taken)
         ctx.now.inherited ctx.now.state) }
     ensures plan { IfOk result (λ taken. (at : DryView) → (items : List PlanItem)
-        → AreInside (render_input T.answers ctx.now) at ctx.now.state
+        → AreItemsInside (render_input T.answers ctx.now) at ctx.now.state
         (expanded ctx.now.style (view_choose choose.now)) items
-        → AreOfTaken (render_input T.answers ctx.now) at (expanded_taken ctx.now.style taken)
+        → AreItemsIfTaken (render_input T.answers ctx.now) at (expanded_taken ctx.now.style taken)
         items) }
 {
     match first_taken(ctx, choose) {
@@ -105,7 +105,7 @@ fn with_tested(set: VariableSet, tests: &Option<Vec<Variable>>) -> VariableSet
     ensures kept { IsWithin set result }
 {
     match tests {
-        Some(tests) => with_all(set, tests),
+        Some(tests) => with_each(set, tests),
         None => set,
     }
 }

@@ -8,7 +8,7 @@ ghost use Rattle.csl_entry.specs.Alike.{Each};
 use csl_style::{DateVariable, NameVariable, Variable, VariableSet};
 
 /// The set with these variables too.
-pub(crate) fn with_all(start: VariableSet, variables: &[Variable]) -> VariableSet
+pub(crate) fn with_each(start: VariableSet, variables: &[Variable]) -> VariableSet
     ensures has { Each (Has result) variables.now }
     ensures kept { IsWithin start result }
 {

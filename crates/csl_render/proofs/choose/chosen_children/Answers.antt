@@ -3,7 +3,7 @@ use Rattle.csl_elements.specs.Node.{expand_nodes}
 use Rattle.csl_elements.specs.View.{view_nodes}
 use Rattle.csl_style.specs.Expanded.{macro_env}
 use Rattle.csl_context.specs.Context.{render_input}
-use Rattle.csl_render.specs.Plan.{AreOfTaken}
+use Rattle.csl_render.specs.Plan.{AreItemsIfTaken}
 use Rattle.csl_render.specs.Tree.{choice_shows, choice_output}
 use Rattle.csl_render.proofs.Chosen.{shows_of_choice, tree_of_choice, some_within}
 use Rattle.csl_render.proofs.Plans.{planned_nodes}
@@ -30,4 +30,4 @@ pub returns-in-Ok-clause-plan : goal.returns-in-Ok-clause-plan
 returns-in-Ok-clause-plan g c at items h =
     let now = c.args.ctx.now in
     let w = render_input g.T.EntryLike.answers now in
-    subst (λ o. AreOfTaken w at (option_map (expand_nodes (macro_env now.style)) o) items) (sym c.in-Ok.ensures.value) (planned_nodes w (macro_env now.style) at now.state items c.args.choose.now h)
+    subst (λ o. AreItemsIfTaken w at (option_map (expand_nodes (macro_env now.style)) o) items) (sym c.in-Ok.ensures.value) (planned_nodes w (macro_env now.style) at now.state items c.args.choose.now h)

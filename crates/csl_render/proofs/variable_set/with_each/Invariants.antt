@@ -2,7 +2,7 @@ use Rattle.std.proofs.Common.{drop}
 use Rattle.csl_entry.specs.Alike.{Each}
 use Rattle.csl_elements.specs.declared.variable_set.VariableSet.{VariableSet}
 use Rattle.csl_elements.specs.VariableSet.{Has, IsWithin}
-use Rattle.csl_render.proofs.variable_set.with_all.Given as goal
+use Rattle.csl_render.proofs.variable_set.with_each.Given as goal
 
 -- a set around the set so far that has the remaining variables has all
 abbrev pub invariant-loop-variable : goal.invariant-loop-variable

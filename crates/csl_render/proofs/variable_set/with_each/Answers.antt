@@ -3,7 +3,7 @@ use Rattle.csl_elements.specs.declared.taxonomy.StandardVariable.TheVariants.{Ab
 use Rattle.csl_elements.specs.declared.taxonomy.Variable.TheVariants as variable
 use Rattle.csl_elements.specs.VariableSet.{Has}
 use Rattle.csl_render.proofs.VariableSets.{each_from, each_after, has_more, more_within}
-use Rattle.csl_render.proofs.variable_set.with_all.Goals as goal
+use Rattle.csl_render.proofs.variable_set.with_each.Goals as goal
 
 pub loop-variable-preserved : goal.loop-variable-preserved
 loop-variable-preserved c = record {
