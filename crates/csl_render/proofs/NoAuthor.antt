@@ -1,6 +1,6 @@
 -- In a cite that suppresses its author no text, number or date shows the author: a name variable is
 -- none of theirs.
-use Rattle.std.proofs.Common.{◌≡◌, Bool, true, false, Option, Some, None, refl, ap, ◌∙◌}
+use Rattle.std.proofs.Common.{◌≡◌, Bool, true, false, Option, Some, None, refl, ap}
 use Rattle.std.specs.Prelude.{◌&&◌, is_some, if◌then◌else◌}
 use Rattle.std.proofs.lemmas.Bool.{false≢true}
 use Rattle.csl_elements.specs.declared.taxonomy.DateVariable.{DateVariable}

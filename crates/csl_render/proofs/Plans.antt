@@ -14,7 +14,6 @@ use Rattle.csl_elements.specs.declared.taxonomy.Variable.TheVariants as variable
 use Rattle.csl_elements.specs.Names.{NamesNode}
 use Rattle.csl_elements.specs.NamesParts.{names_node, names_substitutes, first_substitute}
 use Rattle.csl_elements.specs.Node.{Node, Nodes, Branches, no_branches, otherwise, branch, ExpandedNode, expanded_text, expanded_macro, unknown_macro, expanded_number, expanded_label, expanded_date, expanded_names, shorthand, expanded_choose, expanded_group, ExpandedNodes, no_expanded_nodes, expanded_node, ExpandedBranches, no_expanded_branches, expanded_otherwise, expanded_branch, ExpandedSubstitutes, no_expanded_substitutes, expanded_substitute, expand, expand_nodes, expand_branches}
-use Rattle.csl_style.specs.Expanded.{macro_env}
 use Rattle.csl_elements.specs.View.{view_node, view_branch, view_choose, view_group, view_names, view_nodes, branches_of}
 use Rattle.csl_entry.specs.Alike.{Each}
 use Rattle.csl_entry.specs.declared.citation.cite.SpecialForm.{SpecialForm}

@@ -8,11 +8,8 @@ use Rattle.csl_common.specs.declared.form.LongShortForm.{LongShortForm}
 use Rattle.csl_common.specs.declared.form.LongShortForm.TheVariants.{Long}
 use Rattle.csl_elements.specs.declared.taxonomy.DateVariable.{DateVariable}
 use Rattle.csl_elements.specs.declared.taxonomy.NameVariable.{NameVariable}
-use Rattle.csl_elements.specs.declared.taxonomy.NumberVariable.{NumberVariable}
 use Rattle.csl_elements.specs.declared.taxonomy.NumberOrPageVariable.{NumberOrPageVariable}
 use Rattle.csl_elements.specs.declared.taxonomy.NumberOrPageVariable.TheVariants as number_or_page
-use Rattle.csl_elements.specs.declared.taxonomy.PageVariable.{PageVariable}
-use Rattle.csl_elements.specs.declared.taxonomy.StandardVariable.{StandardVariable}
 use Rattle.csl_elements.specs.declared.taxonomy.Variable.{Variable}
 use Rattle.csl_elements.specs.declared.taxonomy.Variable.TheVariants as variable
 use Rattle.csl_elements.specs.Names.{LabelNode, NamesNode}

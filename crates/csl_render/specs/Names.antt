@@ -11,7 +11,7 @@ use Rattle.csl_elements.specs.declared.taxonomy.NameVariable.TheVariants.{Author
 use Rattle.csl_elements.specs.declared.taxonomy.Variable.{Variable}
 use Rattle.csl_elements.specs.declared.taxonomy.Variable.TheVariants as variable
 use Rattle.csl_elements.specs.NamesOptions.{apply_options}
-use Rattle.csl_elements.specs.Names.{NamesNode, shorthand_expansion}
+use Rattle.csl_elements.specs.Names.{NamesNode}
 use Rattle.csl_elements.specs.NamesParts.{names_node, names_substitutes}
 use Rattle.csl_elements.specs.Node.{ExpandedNode, expanded_text, expanded_macro, unknown_macro, expanded_number, expanded_label, expanded_date, expanded_names, shorthand, expanded_choose, expanded_group, ExpandedNodes, no_expanded_nodes, expanded_node, ExpandedSubstitutes, no_expanded_substitutes, expanded_substitute, expand_substitutes}
 use Rattle.csl_tree.specs.Content.{elem_content}
