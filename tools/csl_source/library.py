@@ -41,11 +41,16 @@ def csl_name(variant: str) -> str:
 
 @functools.cache
 def read_names() -> dict[str, dict[str, str]]:
-    """The variants that have names of their own in CSL, by the names that each `name` writes."""
+    """The variants that have names of their own in CSL, by the names that each `name` writes, as a
+    table or as arms."""
+    table = re.compile(r"names! \{\s+self of (\w+):(.*?)^ +\}", re.M | re.S)
     arm = re.compile(r'^ +((\w+)::\w+) => (?:Some\()?"([\w -]+)"\)?,$', re.M)
     month = re.compile(r'^ +(\d+) => Some\("(month-\d+)"\),$', re.M)
     found: dict[str, dict[str, str]] = {}
     for text in sources():
+        for enum, rows in table.findall(text):
+            for variant, name in re.findall(r'(\w+) "([\w -]+)"', rows):
+                found.setdefault(enum, {})[name] = f"{enum}::{variant}"
         for variant, enum, name in arm.findall(text):
             found.setdefault(enum, {})[name] = variant
         for number, name in month.findall(text):

@@ -4,6 +4,22 @@
 //! An error that the docs of a call do not explain means out of memory.
 #![tactic(auto)]
 
+/// The variants of an enum as a list.
+macro_rules! each {
+    ($type:ident: $($variant:ident $(($inside:expr))?),+ $(,)?) => {
+        [$($type::$variant $(($inside))?),+]
+    };
+}
+
+/// The name of a variant of an enum.
+macro_rules! names {
+    ($value:ident of $type:ident: $($variant:ident $name:literal),+ $(,)?) => {
+        match $value {
+            $($type::$variant => $name,)+
+        }
+    };
+}
+
 pub mod affixes;
 pub mod date;
 pub mod element;

@@ -6,36 +6,12 @@ ghost use Rattle.csl_elements.specs.LocatorNames.{locator_name};
 use crate::taxonomy::Locator;
 
 /// The kinds of locators.
-static LOCATORS: [Locator; 28] = [
-    Locator::Act,
-    Locator::Appendix,
-    Locator::Book,
-    Locator::Canon,
-    Locator::Chapter,
-    Locator::Column,
-    Locator::Equation,
-    Locator::Figure,
-    Locator::Folio,
-    Locator::Issue,
-    Locator::Line,
-    Locator::Note,
-    Locator::Number,
-    Locator::Opus,
-    Locator::Page,
-    Locator::Paragraph,
-    Locator::Part,
-    Locator::Rule,
-    Locator::Scene,
-    Locator::Section,
-    Locator::SubVerbo,
-    Locator::Supplement,
-    Locator::Table,
-    Locator::Timestamp,
-    Locator::Verse,
-    Locator::Version,
-    Locator::Volume,
-    Locator::Custom,
-];
+static LOCATORS: [Locator; 28] = each! {
+    Locator:
+    Act, Appendix, Book, Canon, Chapter, Column, Equation, Figure, Folio, Issue, Line, Note, Number,
+    Opus, Page, Paragraph, Part, Rule, Scene, Section, SubVerbo, Supplement, Table, Timestamp,
+    Verse, Version, Volume, Custom,
+};
 
 impl Locator {
     /// The kind of locator of this name, such as `sub-verbo`, if there is one.
@@ -52,35 +28,14 @@ impl Locator {
     pub fn name(&self) -> &'static str
         ensures { result.now ≡ locator_name self.now }
     {
-        match self {
-            Locator::Act => "act",
-            Locator::Appendix => "appendix",
-            Locator::Book => "book",
-            Locator::Canon => "canon",
-            Locator::Chapter => "chapter",
-            Locator::Column => "column",
-            Locator::Equation => "equation",
-            Locator::Figure => "figure",
-            Locator::Folio => "folio",
-            Locator::Issue => "issue",
-            Locator::Line => "line",
-            Locator::Note => "note",
-            Locator::Number => "number",
-            Locator::Opus => "opus",
-            Locator::Page => "page",
-            Locator::Paragraph => "paragraph",
-            Locator::Part => "part",
-            Locator::Rule => "rule",
-            Locator::Scene => "scene",
-            Locator::Section => "section",
-            Locator::SubVerbo => "sub-verbo",
-            Locator::Supplement => "supplement",
-            Locator::Table => "table",
-            Locator::Timestamp => "timestamp",
-            Locator::Verse => "verse",
-            Locator::Version => "version",
-            Locator::Volume => "volume",
-            Locator::Custom => "custom",
+        names! {
+            self of Locator:
+            Act "act", Appendix "appendix", Book "book", Canon "canon", Chapter "chapter",
+            Column "column", Equation "equation", Figure "figure", Folio "folio", Issue "issue",
+            Line "line", Note "note", Number "number", Opus "opus", Page "page",
+            Paragraph "paragraph", Part "part", Rule "rule", Scene "scene", Section "section",
+            SubVerbo "sub-verbo", Supplement "supplement", Table "table", Timestamp "timestamp",
+            Verse "verse", Version "version", Volume "volume", Custom "custom",
         }
     }
 }

@@ -8,55 +8,15 @@ use crate::taxonomy::{
 };
 
 /// The standard variables.
-static STANDARD_VARIABLES: [StandardVariable; 47] = [
-    StandardVariable::Abstract,
-    StandardVariable::Annote,
-    StandardVariable::Archive,
-    StandardVariable::ArchiveCollection,
-    StandardVariable::ArchiveLocation,
-    StandardVariable::ArchivePlace,
-    StandardVariable::Authority,
-    StandardVariable::CallNumber,
-    StandardVariable::CitationKey,
-    StandardVariable::CitationLabel,
-    StandardVariable::CollectionTitle,
-    StandardVariable::ContainerTitle,
-    StandardVariable::ContainerTitleShort,
-    StandardVariable::Dimensions,
-    StandardVariable::Division,
-    StandardVariable::DOI,
-    StandardVariable::Event,
-    StandardVariable::EventTitle,
-    StandardVariable::EventPlace,
-    StandardVariable::Genre,
-    StandardVariable::ISBN,
-    StandardVariable::ISSN,
-    StandardVariable::Jurisdiction,
-    StandardVariable::Keyword,
-    StandardVariable::Language,
-    StandardVariable::License,
-    StandardVariable::Medium,
-    StandardVariable::Note,
-    StandardVariable::OriginalPublisher,
-    StandardVariable::OriginalPublisherPlace,
-    StandardVariable::OriginalTitle,
-    StandardVariable::PartTitle,
-    StandardVariable::PMCID,
-    StandardVariable::PMID,
-    StandardVariable::Publisher,
-    StandardVariable::PublisherPlace,
-    StandardVariable::References,
-    StandardVariable::ReviewedGenre,
-    StandardVariable::ReviewedTitle,
-    StandardVariable::Scale,
-    StandardVariable::Source,
-    StandardVariable::Status,
-    StandardVariable::Title,
-    StandardVariable::TitleShort,
-    StandardVariable::URL,
-    StandardVariable::VolumeTitle,
-    StandardVariable::YearSuffix,
-];
+static STANDARD_VARIABLES: [StandardVariable; 47] = each! {
+    StandardVariable:
+    Abstract, Annote, Archive, ArchiveCollection, ArchiveLocation, ArchivePlace, Authority,
+    CallNumber, CitationKey, CitationLabel, CollectionTitle, ContainerTitle, ContainerTitleShort,
+    Dimensions, Division, DOI, Event, EventTitle, EventPlace, Genre, ISBN, ISSN, Jurisdiction,
+    Keyword, Language, License, Medium, Note, OriginalPublisher, OriginalPublisherPlace,
+    OriginalTitle, PartTitle, PMCID, PMID, Publisher, PublisherPlace, References, ReviewedGenre,
+    ReviewedTitle, Scale, Source, Status, Title, TitleShort, URL, VolumeTitle, YearSuffix,
+};
 
 impl StandardVariable {
     /// The standard variable of this name, such as `container-title`, if there is one.
@@ -74,78 +34,35 @@ impl StandardVariable {
     pub fn name(&self) -> &'static str
         ensures { result.now ≡ spec.standard_name self.now }
     {
-        match self {
-            StandardVariable::Abstract => "abstract",
-            StandardVariable::Annote => "annote",
-            StandardVariable::Archive => "archive",
-            StandardVariable::ArchiveCollection => "archive_collection",
-            StandardVariable::ArchiveLocation => "archive_location",
-            StandardVariable::ArchivePlace => "archive-place",
-            StandardVariable::Authority => "authority",
-            StandardVariable::CallNumber => "call-number",
-            StandardVariable::CitationKey => "citation-key",
-            StandardVariable::CitationLabel => "citation-label",
-            StandardVariable::CollectionTitle => "collection-title",
-            StandardVariable::ContainerTitle => "container-title",
-            StandardVariable::ContainerTitleShort => "container-title-short",
-            StandardVariable::Dimensions => "dimensions",
-            StandardVariable::Division => "division",
-            StandardVariable::DOI => "DOI",
-            StandardVariable::Event => "event",
-            StandardVariable::EventTitle => "event-title",
-            StandardVariable::EventPlace => "event-place",
-            StandardVariable::Genre => "genre",
-            StandardVariable::ISBN => "ISBN",
-            StandardVariable::ISSN => "ISSN",
-            StandardVariable::Jurisdiction => "jurisdiction",
-            StandardVariable::Keyword => "keyword",
-            StandardVariable::Language => "language",
-            StandardVariable::License => "license",
-            StandardVariable::Medium => "medium",
-            StandardVariable::Note => "note",
-            StandardVariable::OriginalPublisher => "original-publisher",
-            StandardVariable::OriginalPublisherPlace => "original-publisher-place",
-            StandardVariable::OriginalTitle => "original-title",
-            StandardVariable::PartTitle => "part-title",
-            StandardVariable::PMCID => "PMCID",
-            StandardVariable::PMID => "PMID",
-            StandardVariable::Publisher => "publisher",
-            StandardVariable::PublisherPlace => "publisher-place",
-            StandardVariable::References => "references",
-            StandardVariable::ReviewedGenre => "reviewed-genre",
-            StandardVariable::ReviewedTitle => "reviewed-title",
-            StandardVariable::Scale => "scale",
-            StandardVariable::Source => "source",
-            StandardVariable::Status => "status",
-            StandardVariable::Title => "title",
-            StandardVariable::TitleShort => "title-short",
-            StandardVariable::URL => "URL",
-            StandardVariable::VolumeTitle => "volume-title",
-            StandardVariable::YearSuffix => "year-suffix",
+        names! {
+            self of StandardVariable:
+            Abstract "abstract", Annote "annote", Archive "archive",
+            ArchiveCollection "archive_collection", ArchiveLocation "archive_location",
+            ArchivePlace "archive-place", Authority "authority", CallNumber "call-number",
+            CitationKey "citation-key", CitationLabel "citation-label",
+            CollectionTitle "collection-title", ContainerTitle "container-title",
+            ContainerTitleShort "container-title-short", Dimensions "dimensions",
+            Division "division", DOI "DOI", Event "event", EventTitle "event-title",
+            EventPlace "event-place", Genre "genre", ISBN "ISBN", ISSN "ISSN",
+            Jurisdiction "jurisdiction", Keyword "keyword", Language "language", License "license",
+            Medium "medium", Note "note", OriginalPublisher "original-publisher",
+            OriginalPublisherPlace "original-publisher-place", OriginalTitle "original-title",
+            PartTitle "part-title", PMCID "PMCID", PMID "PMID", Publisher "publisher",
+            PublisherPlace "publisher-place", References "references",
+            ReviewedGenre "reviewed-genre", ReviewedTitle "reviewed-title", Scale "scale",
+            Source "source", Status "status", Title "title", TitleShort "title-short", URL "URL",
+            VolumeTitle "volume-title", YearSuffix "year-suffix",
         }
     }
 }
 
 /// The number variables.
-static NUMBER_VARIABLES: [NumberVariable; 17] = [
-    NumberVariable::ChapterNumber,
-    NumberVariable::CitationNumber,
-    NumberVariable::CollectionNumber,
-    NumberVariable::Edition,
-    NumberVariable::FirstReferenceNoteNumber,
-    NumberVariable::Issue,
-    NumberVariable::Locator,
-    NumberVariable::Number,
-    NumberVariable::NumberOfPages,
-    NumberVariable::NumberOfVolumes,
-    NumberVariable::PageFirst,
-    NumberVariable::PartNumber,
-    NumberVariable::PrintingNumber,
-    NumberVariable::Section,
-    NumberVariable::SupplementNumber,
-    NumberVariable::Version,
-    NumberVariable::Volume,
-];
+static NUMBER_VARIABLES: [NumberVariable; 17] = each! {
+    NumberVariable:
+    ChapterNumber, CitationNumber, CollectionNumber, Edition, FirstReferenceNoteNumber, Issue,
+    Locator, Number, NumberOfPages, NumberOfVolumes, PageFirst, PartNumber, PrintingNumber, Section,
+    SupplementNumber, Version, Volume,
+};
 
 impl NumberVariable {
     /// The number variable of this name, such as `volume`, if there is one.
@@ -163,24 +80,15 @@ impl NumberVariable {
     pub fn name(&self) -> &'static str
         ensures { result.now ≡ spec.number_name self.now }
     {
-        match self {
-            NumberVariable::ChapterNumber => "chapter-number",
-            NumberVariable::CitationNumber => "citation-number",
-            NumberVariable::CollectionNumber => "collection-number",
-            NumberVariable::Edition => "edition",
-            NumberVariable::FirstReferenceNoteNumber => "first-reference-note-number",
-            NumberVariable::Issue => "issue",
-            NumberVariable::Locator => "locator",
-            NumberVariable::Number => "number",
-            NumberVariable::NumberOfPages => "number-of-pages",
-            NumberVariable::NumberOfVolumes => "number-of-volumes",
-            NumberVariable::PageFirst => "page-first",
-            NumberVariable::PartNumber => "part-number",
-            NumberVariable::PrintingNumber => "printing-number",
-            NumberVariable::Section => "section",
-            NumberVariable::SupplementNumber => "supplement-number",
-            NumberVariable::Version => "version",
-            NumberVariable::Volume => "volume",
+        names! {
+            self of NumberVariable:
+            ChapterNumber "chapter-number", CitationNumber "citation-number",
+            CollectionNumber "collection-number", Edition "edition",
+            FirstReferenceNoteNumber "first-reference-note-number", Issue "issue",
+            Locator "locator", Number "number", NumberOfPages "number-of-pages",
+            NumberOfVolumes "number-of-volumes", PageFirst "page-first", PartNumber "part-number",
+            PrintingNumber "printing-number", Section "section",
+            SupplementNumber "supplement-number", Version "version", Volume "volume",
         }
     }
 }
@@ -211,14 +119,10 @@ impl PageVariable {
 }
 
 /// The date variables.
-static DATE_VARIABLES: [DateVariable; 6] = [
-    DateVariable::Accessed,
-    DateVariable::AvailableDate,
-    DateVariable::EventDate,
-    DateVariable::Issued,
-    DateVariable::OriginalDate,
-    DateVariable::Submitted,
-];
+static DATE_VARIABLES: [DateVariable; 6] = each! {
+    DateVariable:
+    Accessed, AvailableDate, EventDate, Issued, OriginalDate, Submitted,
+};
 
 impl DateVariable {
     /// The date variable of this name, such as `issued`, if there is one.
@@ -236,47 +140,22 @@ impl DateVariable {
     pub fn name(&self) -> &'static str
         ensures { result.now ≡ spec.date_name self.now }
     {
-        match self {
-            DateVariable::Accessed => "accessed",
-            DateVariable::AvailableDate => "available-date",
-            DateVariable::EventDate => "event-date",
-            DateVariable::Issued => "issued",
-            DateVariable::OriginalDate => "original-date",
-            DateVariable::Submitted => "submitted",
+        names! {
+            self of DateVariable:
+            Accessed "accessed", AvailableDate "available-date", EventDate "event-date",
+            Issued "issued", OriginalDate "original-date", Submitted "submitted",
         }
     }
 }
 
 /// The name variables.
-pub(crate) static NAME_VARIABLES: [NameVariable; 27] = [
-    NameVariable::Author,
-    NameVariable::Chair,
-    NameVariable::CollectionEditor,
-    NameVariable::Compiler,
-    NameVariable::Composer,
-    NameVariable::ContainerAuthor,
-    NameVariable::Contributor,
-    NameVariable::Curator,
-    NameVariable::Director,
-    NameVariable::Editor,
-    NameVariable::EditorialDirector,
-    NameVariable::EditorTranslator,
-    NameVariable::ExecutiveProducer,
-    NameVariable::Guest,
-    NameVariable::Host,
-    NameVariable::Illustrator,
-    NameVariable::Interviewer,
-    NameVariable::Narrator,
-    NameVariable::Organizer,
-    NameVariable::OriginalAuthor,
-    NameVariable::Performer,
-    NameVariable::Producer,
-    NameVariable::Recipient,
-    NameVariable::ReviewedAuthor,
-    NameVariable::ScriptWriter,
-    NameVariable::SeriesCreator,
-    NameVariable::Translator,
-];
+pub(crate) static NAME_VARIABLES: [NameVariable; 27] = each! {
+    NameVariable:
+    Author, Chair, CollectionEditor, Compiler, Composer, ContainerAuthor, Contributor, Curator,
+    Director, Editor, EditorialDirector, EditorTranslator, ExecutiveProducer, Guest, Host,
+    Illustrator, Interviewer, Narrator, Organizer, OriginalAuthor, Performer, Producer, Recipient,
+    ReviewedAuthor, ScriptWriter, SeriesCreator, Translator,
+};
 
 /// The name of a variable in the spelling of Appendix IV: `editor-translator` for the
 /// `editortranslator` of published styles.
@@ -315,34 +194,17 @@ impl NameVariable {
     pub fn name(&self) -> &'static str
         ensures { result.now ≡ spec.name_variable_name self.now }
     {
-        match self {
-            NameVariable::Author => "author",
-            NameVariable::Chair => "chair",
-            NameVariable::CollectionEditor => "collection-editor",
-            NameVariable::Compiler => "compiler",
-            NameVariable::Composer => "composer",
-            NameVariable::ContainerAuthor => "container-author",
-            NameVariable::Contributor => "contributor",
-            NameVariable::Curator => "curator",
-            NameVariable::Director => "director",
-            NameVariable::Editor => "editor",
-            NameVariable::EditorialDirector => "editorial-director",
-            NameVariable::EditorTranslator => "editor-translator",
-            NameVariable::ExecutiveProducer => "executive-producer",
-            NameVariable::Guest => "guest",
-            NameVariable::Host => "host",
-            NameVariable::Illustrator => "illustrator",
-            NameVariable::Interviewer => "interviewer",
-            NameVariable::Narrator => "narrator",
-            NameVariable::Organizer => "organizer",
-            NameVariable::OriginalAuthor => "original-author",
-            NameVariable::Performer => "performer",
-            NameVariable::Producer => "producer",
-            NameVariable::Recipient => "recipient",
-            NameVariable::ReviewedAuthor => "reviewed-author",
-            NameVariable::ScriptWriter => "script-writer",
-            NameVariable::SeriesCreator => "series-creator",
-            NameVariable::Translator => "translator",
+        names! {
+            self of NameVariable:
+            Author "author", Chair "chair", CollectionEditor "collection-editor",
+            Compiler "compiler", Composer "composer", ContainerAuthor "container-author",
+            Contributor "contributor", Curator "curator", Director "director", Editor "editor",
+            EditorialDirector "editorial-director", EditorTranslator "editor-translator",
+            ExecutiveProducer "executive-producer", Guest "guest", Host "host",
+            Illustrator "illustrator", Interviewer "interviewer", Narrator "narrator",
+            Organizer "organizer", OriginalAuthor "original-author", Performer "performer",
+            Producer "producer", Recipient "recipient", ReviewedAuthor "reviewed-author",
+            ScriptWriter "script-writer", SeriesCreator "series-creator", Translator "translator",
         }
     }
 }
