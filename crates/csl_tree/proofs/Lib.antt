@@ -16,6 +16,7 @@ pub mod TreeEqual
 pub mod Rounds
 pub mod RoundSteps
 pub mod NormalForms
+pub mod SimplifiedText
 pub mod MetaEqual
 pub mod Searches
 pub mod Removals

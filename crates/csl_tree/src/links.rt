@@ -75,6 +75,9 @@ impl ElemChildren {
         // the values that it captures. The addresses that are left are those that it accepts.
         ensures filtered { IsFiltered (CalledAt F.FnMut) is_allowed
             (addresses (tokens self.old)) (addresses (tokens self.new)) }
+        // Exactly the links that it rejects become their texts, whatever its result depends on.
+        ensures in_turn { (after : F) × KeepsInTurn (CalledAt F.FnMut) is_allowed
+            (tokens self.old) (tokens self.new) after }
         // If its result depends on the address alone, exactly the links that it rejects become their
         // texts.
         ensures kept { (allowed : List ℕ → Bool) → ComputesKey F.FnMut allowed is_allowed

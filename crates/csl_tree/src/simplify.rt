@@ -8,6 +8,7 @@
 ghost use Rattle.std.specs.Prelude.{◌≡◌, ◌<◌, ◌↔◌, IsTrue, OnOk, IfOk};
 ghost use Rattle.std.specs.Bool.{OnFalse};
 ghost use Rattle.csl_tree.specs.Tokens.{tokens};
+ghost use Rattle.csl_tree.specs.Write.{plain_text};
 ghost use Rattle.csl_tree.specs.Tree.{Tree, tree, elem_tree, child_tree, row, tokens_of};
 ghost use Rattle.csl_tree.specs.Simplify.{simplify_once, simplify_once_after, simplify_fully_after, tree_inside, with_inside, styled_value, is_normal, has_no_empty_text, normal_form, node_count};
 
@@ -101,6 +102,7 @@ impl Elem {
 pub fn simplify_fully(alloc: Global, children: &ElemChildren) -> Result<ElemChildren, Memory>
     ensures rounds { IfOk result (λ r. tree r ≡ normal_form (tree children.now)) }
     ensures normal { IfOk result (λ r. IsTrue (is_normal (tree r))) }
+    ensures plain { IfOk result (λ r. plain_text (tokens r) ≡ plain_text (tokens children.now)) }
     ensures tells { IfOk result (λ r. (u : Tree) → IsTrue (has_no_empty_text (tree children.now))
         → IsTrue (has_no_empty_text u)
         → (tree r ≡ normal_form u) ↔ (styled_value (tree children.now) ≡ styled_value u)) }

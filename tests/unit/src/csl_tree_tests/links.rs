@@ -31,3 +31,27 @@ fn other_links_become_their_texts(rt: HostRuntime) {
         assert_kept(&rt, rt.alloc(), row);
     }
 }
+
+/// A tree, and the tree after every other link became its text, from the first one on.
+static TURNS: [(&str, &str); 3] = [
+    ("@x|u", "x"),
+    ("@x|u @y|u", "x @y|u"),
+    (
+        "( ( @x|u $m #7 )block:date @y|u ) @z|u z @/x|u",
+        "( ( x $m #7 )block:date @y|u ) z z @/x|u",
+    ),
+];
+
+#[test]
+fn each_link_is_asked_once_in_turn(rt: HostRuntime) {
+    let rows: &[(&str, &str)] = &TURNS;
+    for &(source, wanted) in rows {
+        let mut tree = read(&rt, rt.alloc(), source);
+        let mut is_next_allowed = true;
+        tree.keep_links(|_: &str| {
+            is_next_allowed = !is_next_allowed;
+            is_next_allowed
+        });
+        assert_tree(&rt, rt.alloc(), tree, wanted, source);
+    }
+}

@@ -22,3 +22,6 @@ returns-clause-leaves g c = kept_gives (CalledAt g.F.FnMut) token_text (λ bs s 
 
 pub returns-clause-plain : goal.returns-clause-plain
 returns-clause-plain g c = kept_gives (CalledAt g.F.FnMut) plain_of (λ bs s url. refl) _ _ _ _ c.keep_links_by.ensures.kept
+
+pub returns-clause-in_turn : goal.returns-clause-in_turn
+returns-clause-in_turn g c = (_, c.keep_links_by.ensures.kept)
