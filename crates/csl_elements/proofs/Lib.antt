@@ -1,5 +1,6 @@
 pub mod InsideLaws
 pub mod Alike
+mod OrdinalRows
 pub mod Variables
 pub mod Terms
 pub mod Overlays

@@ -11,6 +11,7 @@ pub mod View
 pub mod Element
 pub mod Constructors
 pub mod Ordinals
+pub mod OrdinalTable
 pub mod Taxonomy
 pub mod VariableNames
 pub mod LocatorNames

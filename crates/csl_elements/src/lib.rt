@@ -46,7 +46,9 @@ pub use element::{
 pub use formatting::{
     Display, FontStyle, FontVariant, FontWeight, Formatting, TextDecoration, VerticalAlign,
 };
-pub use locale::{Locale, LocaleOrdinals, OrdinalMatch, OrdinalSlot, OrdinalTerm, TermEntry};
+pub use locale::{
+    Locale, LocaleOrdinals, OrdinalMatch, OrdinalSlot, OrdinalTable, OrdinalTerm, TermEntry,
+};
 pub use named::Named;
 pub use names::{
     DelimiterBehavior, EtAl, InheritableNameOptions, InheritedNameOptions, Name, NameAnd,

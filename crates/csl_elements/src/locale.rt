@@ -9,9 +9,10 @@ use crate::term::{Term, TermForm};
 use csl_common::{GrammarGender, Memory};
 use std::alloc::Global;
 
-mod borrowed;
+pub(crate) mod ordinal_table;
 pub(crate) mod ordinals;
 
+pub use ordinal_table::OrdinalTable;
 pub use ordinals::LocaleOrdinals;
 
 /// A term in one form (CSL 1.0.2, Terms).

@@ -9,7 +9,6 @@ pub mod MacroCalls
 pub mod Cycles
 pub mod CallGraph
 pub mod TermPlaces
-pub mod FirstOrdinals
 pub mod Style
 pub mod YearSuffix
 pub mod AllNodes

@@ -9,7 +9,6 @@ mod call_graph;
 mod components;
 mod cycles;
 mod depth;
-mod first_ordinals;
 mod missing;
 mod missing_term;
 mod named;
@@ -27,11 +26,11 @@ pub use csl_elements::{
     InheritedNameOptions, Kind, Label, LabelPluralize, Layout, LayoutRenderingElement, Locale,
     LocaleOrdinals, Locator, LongShortForm, Name, NameAnd, NameAsSortOrder, NameForm, NameOptions,
     NamePart, NamePartName, NameVariable, Named, Names, NamesChild, NamesParts, Number, NumberForm,
-    NumberOrPageVariable, NumberVariable, OrdinalMatch, OrdinalSlot, OrdinalTerm, OtherTerm,
-    PageVariable, PlacedLabel, RenderingElement, Season, StandardVariable, Substitute, Term,
-    TermEntry, TermForm, TestPosition, Text, TextDecoration, TextTarget, Variable, VariableSet,
-    VariablelessLabel, VerticalAlign, affixes, date, element, formatting, locale, names, number,
-    taxonomy, term, text,
+    NumberOrPageVariable, NumberVariable, OrdinalMatch, OrdinalSlot, OrdinalTable, OrdinalTerm,
+    OtherTerm, PageVariable, PlacedLabel, RenderingElement, Season, StandardVariable, Substitute,
+    Term, TermEntry, TermForm, TestPosition, Text, TextDecoration, TextTarget, Variable,
+    VariableSet, VariablelessLabel, VerticalAlign, affixes, date, element, formatting, locale,
+    names, number, taxonomy, term, text,
 };
 pub use named::named_by;
 pub use style::{

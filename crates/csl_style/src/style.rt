@@ -16,13 +16,12 @@ ghost use Rattle.csl_style.specs.YearSuffix.{is_year_suffix_implicit, reached_la
 use crate::call_graph::{PlacedMacros, call_graph};
 use crate::components::{Components, components_of};
 use crate::cycles::first_cyclic;
-use crate::first_ordinals::first_ordinals;
 use crate::places::{Places, places_by_name};
 use crate::term_places::TermPlaces;
 use crate::year_suffix::{ImplicitSuffix, implicit_suffix};
 use csl_common::GrammarGender;
 use csl_elements::{
-    CslMacro, Date, DateForm, Layout, Locale, LocaleOrdinals, Term, TermForm, lookup,
+    CslMacro, Date, DateForm, Layout, Locale, LocaleOrdinals, OrdinalTable, Term, TermForm, lookup,
 };
 use std::alloc::Global;
 use std::marker::Model;
@@ -45,8 +44,8 @@ pub struct Style {
     places: Places,
     /// The places of the terms in `locales`.
     term_places: TermPlaces,
-    /// The ordinals that lookups in `locales` find, as those of one locale.
-    first_ordinals: Vec<Locale>,
+    /// The ordinals that lookups in `locales` find, by their slots.
+    ordinal_table: OrdinalTable,
     /// Whether each layout reaches no text of the year suffix.
     implicit: ImplicitSuffix,
 }
@@ -67,7 +66,7 @@ impl Model for Style {
     ghost use Rattle.csl_style.specs.Style.{is_chicago};
     ghost use Rattle.csl_style.specs.CallGraph.{ArePlacesByName};
     ghost use Rattle.csl_style.specs.TermPlaces.{ArePlacesOfTerms};
-    ghost use Rattle.csl_style.specs.FirstOrdinals.{HaveSameOrdinals};
+    ghost use Rattle.csl_elements.specs.OrdinalTable.{IsTableOf};
     ghost use Rattle.csl_style.specs.YearSuffix.{is_implicit_in};
 
     ghost view = { λ s. record {
@@ -82,7 +81,7 @@ impl Model for Style {
         × (is_chicago s.settings.page_range_format ≡ false)
         × ArePlacesByName s.places (definitions s.macros.items)
         × ArePlacesOfTerms s.term_places s.locales.items
-        × HaveSameOrdinals s.first_ordinals.items s.locales.items
+        × IsTableOf s.ordinal_table s.locales.items
         × (s.implicit.in_citation ≡ is_implicit_in (definitions s.macros.items) (Some s.citation))
         × (s.implicit.in_bibliography ≡ is_implicit_in (definitions s.macros.items)
         s.bibliography) };
@@ -189,7 +188,7 @@ impl Style {
             &bibliography,
         )?;
         let term_places = TermPlaces::new(alloc, &locales)?;
-        let first_ordinals = first_ordinals(alloc, &locales)?;
+        let ordinal_table = OrdinalTable::new(alloc, &locales)?;
         Ok(Style {
             settings,
             macros,
@@ -198,7 +197,7 @@ impl Style {
             locales,
             places,
             term_places,
-            first_ordinals,
+            ordinal_table,
             implicit,
         })
     }
@@ -303,11 +302,10 @@ impl Style {
         ensures { option_map (λ text. text.now) result
             ≡ ordinals (map ordinals_of self.now.locales) number gender }
     {
-        lookup::ordinal(&self.first_ordinals, number, gender)
+        self.ordinals().suffix(number, gender)
     }
 
-    /// The ordinals of the style: the first of each slot, match and gender, since lookups find no
-    /// other.
+    /// The ordinals of the style, for lookups that go through those of three slots at most.
     pub fn ordinals(&self) -> LocaleOrdinals<'_>
         ensures suffixes { ordinals (map ordinals_of result.locales.now)
             ≡ ordinals (map ordinals_of self.now.locales) }
@@ -315,7 +313,8 @@ impl Style {
             ≡ long_ordinals (map ordinals_of self.now.locales) }
     {
         LocaleOrdinals {
-            locales: &self.first_ordinals,
+            locales: &self.locales,
+            table: &self.ordinal_table,
         }
     }
 

@@ -5,7 +5,7 @@ use crate::csl_style_tests::locale_rows::{LocaleRows, SILENT, locales, style_of}
 use csl_laws::locale::same_slot;
 use csl_style::{
     Date, DateForm, DateParts, LocaleOrdinals, Locator, NumberVariable, OrdinalMatch, OrdinalSlot,
-    OtherTerm, Style, Term, TermForm,
+    OrdinalTable, OtherTerm, Style, Term, TermForm,
 };
 use lit_model::{GrammarGender, NumberForm, Numeric, Ordinals};
 use std::alloc::Global;
@@ -104,7 +104,11 @@ fn assert_in_both_forms(
 
 fn assert_english(rt: &impl Abort, alloc: Global) {
     let locales = locales(rt, alloc, &ENGLISH);
-    let ordinals = LocaleOrdinals { locales: &locales };
+    let table = OrdinalTable::new(alloc, &locales).expect(rt, "memory");
+    let ordinals = LocaleOrdinals {
+        locales: &locales,
+        table: &table,
+    };
     let numbers: &[(i32, &'static str)] = &IN_ENGLISH;
     for row in numbers {
         assert_in_both_forms(rt, alloc, &ordinals, row);
@@ -115,11 +119,14 @@ const WHOLE: Option<OrdinalMatch> = Some(OrdinalMatch::WholeNumber);
 
 const LAST_TWO: Option<OrdinalMatch> = Some(OrdinalMatch::LastTwoDigits);
 
-/// The locales of one language whose ordinals depend on gender and digits. The second locale has
-/// none.
+/// The locales of one language whose ordinals depend on gender and digits. No number has one of the
+/// first three slots. The second locale has no ordinals.
 const BY_GENDER_AND_DIGITS: [LocaleRows<'static>; 2] = [
     LocaleRows {
         ordinals: &[
+            (OrdinalSlot::Two(100), None, None, "a slot above 99"),
+            (OrdinalSlot::Two(102), None, FEMININE, "a slot above 99"),
+            (OrdinalSlot::Long(155), None, None, "a word above 10"),
             (OrdinalSlot::Default, None, None, "e"),
             (OrdinalSlot::Two(1), None, MASCULINE, "er"),
             (OrdinalSlot::Two(1), None, FEMININE, "re"),
@@ -137,7 +144,9 @@ const BY_GENDER_AND_DIGITS: [LocaleRows<'static>; 2] = [
 /// Whether the query is for the word, the number, the gender, and the suffix or the word.
 type OrdinalRow = (bool, i32, Option<GrammarGender>, Option<&'static str>);
 
-static ORDINALS: [OrdinalRow; 10] = [
+static ORDINALS: [OrdinalRow; 12] = [
+    (false, 100, None, Some("e")),
+    (false, 102, FEMININE, Some("e")),
     (false, 1, FEMININE, Some("re")),
     (false, 21, MASCULINE, Some("er")),
     (false, 1, None, Some("st")),
@@ -166,15 +175,23 @@ fn assert_ordinal(
 
 fn assert_by_gender_and_digits(rt: &impl Abort, alloc: Global) {
     let locales = locales(rt, alloc, &BY_GENDER_AND_DIGITS);
-    let ordinals = LocaleOrdinals { locales: &locales };
+    let table = OrdinalTable::new(alloc, &locales).expect(rt, "memory");
+    let ordinals = LocaleOrdinals {
+        locales: &locales,
+        table: &table,
+    };
     let rows: &[OrdinalRow] = &ORDINALS;
     for row in rows {
         assert_ordinal(rt, &ordinals, row);
     }
 }
 
-fn assert_without_locales(rt: &impl Abort) {
-    let ordinals = LocaleOrdinals { locales: &[] };
+fn assert_without_locales(rt: &impl Abort, alloc: Global) {
+    let table = OrdinalTable::new(alloc, &[]).expect(rt, "memory");
+    let ordinals = LocaleOrdinals {
+        locales: &[],
+        table: &table,
+    };
     assert_ordinal(rt, &ordinals, &(false, 3, None, None));
 }
 
@@ -182,7 +199,7 @@ fn assert_without_locales(rt: &impl Abort) {
 fn ordinals_by_gender_and_digits(rt: HostRuntime) {
     assert_english(&rt, rt.alloc());
     assert_by_gender_and_digits(&rt, rt.alloc());
-    assert_without_locales(&rt);
+    assert_without_locales(&rt, rt.alloc());
 }
 
 /// Terms in two locales. Some are there twice, in one locale or in both.
