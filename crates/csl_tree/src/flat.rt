@@ -1,12 +1,12 @@
 //! A tree under construction, in one flat list: the children of all open parts, and beside it a mark
 //! for each part, which is the place of its first child.
 
-ghost use Rattle.std.specs.Prelude.{◌≡◌, ◌+◌, ◌<◌, ◌≤◌, not, [], ◌∷◌, length, take, drop, OnOk, IfOk, OnErr, vec_len, vec_capacity};
+ghost use Rattle.std.specs.Prelude.{◌≡◌, ◌+◌, ◌<◌, ◌≤◌, true, not, [], ◌∷◌, length, take, drop, OnOk, IfOk, OnErr, vec_len, vec_capacity};
 ghost use Rattle.std.specs.Bool.{OnTrue, OnFalse};
 ghost use Rattle.csl_tree.specs.Content.{◌++>◌, text_content, child_content, elem_content, affixed_content};
 ghost use Rattle.csl_tree.specs.Tokens as spec;
 ghost use Rattle.csl_tree.specs.Flat.{only_root, with_tokens, open_part, close_part, discard_part, affix_content};
-ghost use Rattle.csl_tree.specs.FlatChildren.{content_of};
+ghost use Rattle.csl_tree.specs.FlatChildren.{content_of, IsJoined};
 
 use crate::content::{join_last, join_texts};
 use crate::elem::{Elem, ElemChild, ElemChildren, ElemMeta};
@@ -26,6 +26,12 @@ const ROOM_FOR_MARKS: usize = 64;
 /// The room made in a text for a text that joins it, such as a suffix.
 const ROOM_TO_JOIN: usize = 16;
 
+/// What an element or a leaf takes from the limit beside its texts, in bytes.
+const BYTES_OF_CHILD: u64 = 64;
+
+/// More than memory holds: whoever may write more has no limit.
+const MORE_THAN_MEMORY: u64 = u64::MAX / 2;
+
 /// A tree under construction: its open parts, each with its content. The root is always open.
 #[derive(Drop)]
 pub struct FlatTree {
@@ -36,6 +42,9 @@ pub struct FlatTree {
     start: usize,
     /// The marks of the parts around it, from the root inwards.
     around: Vec<usize>,
+    /// What may still be written. It is not part of the model: a call that finds too little fails as
+    /// one that finds no memory.
+    room: Room,
 }
 
 impl Model for FlatTree {
@@ -48,6 +57,79 @@ impl Model for FlatTree {
     ghost view = { λ t. open_parts t.children.items t.start t.around.items };
 
     ghost invariant = { λ t. AreMarks t.children.items t.start t.around.items };
+}
+
+/// The bytes that may still be written into a tree.
+#[derive(Clone, Copy)]
+struct Room {
+    left: u64,
+    /// Whether more than these were wanted. Then nothing may be written any more.
+    is_used_up: bool,
+}
+
+/// Takes bytes from the room, if it has so many.
+fn take_from(room: &mut Room, bytes: u64) -> Result<(), Memory>
+    ensures ok { OnOk result (room.new.left + bytes ≡ room.old.left) }
+    ensures err { OnErr result ((room.new.is_used_up ≡ true) × (room.old.left < bytes)) }
+{
+    match room.left.checked_sub(bytes) {
+        Some(left) => {
+            room.left = left;
+            Ok(())
+        }
+        None => {
+            room.is_used_up = true;
+            Err(Memory)
+        }
+    }
+}
+
+/// What a child takes, in bytes. The children of an element took theirs before.
+fn child_bytes(child: &ElemChild) -> u64 {
+    let texts = match child {
+        ElemChild::Text(text) => text.text.len(),
+        ElemChild::Markup(markup) => markup.len(),
+        ElemChild::Link { text, url } => text.text.len().saturating_add(url.len()),
+        ElemChild::Elem(_) => 0,
+        ElemChild::Transparent { .. } => 0,
+    };
+    BYTES_OF_CHILD.saturating_add(texts as u64)
+}
+
+/// What an affix takes, in bytes. A missing or empty one takes nothing.
+fn affix_bytes(text: &Option<Formatted>) -> u64 {
+    match text {
+        Some(text) => {
+            if text.text.is_empty() {
+                0
+            } else {
+                BYTES_OF_CHILD.saturating_add(text.text.len() as u64)
+            }
+        }
+        None => 0,
+    }
+}
+
+/// Takes the bytes of an element, and joins the texts among its children, those from `from` on.
+fn join_for_elem(room: &mut Room, children: &mut Vec<ElemChild>, from: usize) -> Result<(), Memory>
+    requires within { from ≤ length children.old.items }
+    ensures before { take from children.new.items ≡ take from children.old.items }
+    ensures same { content_of (drop from children.new.items)
+        ≡ content_of (drop from children.old.items) }
+    ensures joined { OnOk result (IsJoined (drop from children.new.items)) }
+{
+    take_from(room, BYTES_OF_CHILD)?;
+    join_texts(children, from)
+}
+
+/// Takes the bytes of two affixes, and makes room for them among the children.
+fn reserve_affixes(room: &mut Room, children: &mut Vec<ElemChild>, bytes: u64) -> Result<(), Memory>
+    ensures items { children.new.items ≡ children.old.items }
+    ensures capacity { OnOk result (vec_len children.old + 2 ≤ vec_capacity children.new) }
+{
+    take_from(room, bytes)?;
+    children.reserve(2)?;
+    Ok(())
 }
 
 /// Inserts a text at a place, unless it is absent or empty. There must be room for it.
@@ -96,7 +178,47 @@ impl FlatTree {
             children: Vec::new(alloc),
             start: 0,
             around: Vec::new(alloc),
+            room: Room {
+                left: u64::MAX,
+                is_used_up: false,
+            },
         }
+    }
+
+    /// Sets how many bytes may still be written into the tree. Each text takes its bytes, and each
+    /// element and leaf 64 more, also if it is dropped later. A call that needs more than are left
+    /// fails, as one that finds no memory.
+    pub fn limit(&mut self, bytes: u64)
+        ensures { self.new ≡ self.old }
+    {
+        self.room = Room {
+            left: bytes,
+            is_used_up: false,
+        };
+    }
+
+    /// How many bytes may still be written. Without a limit they are more than memory holds.
+    pub fn room(&self) -> u64 {
+        if self.room.is_used_up {
+            0
+        } else {
+            self.room.left
+        }
+    }
+
+    /// Whether there is a limit of what memory may hold.
+    pub fn is_limited(&self) -> bool {
+        self.room.left <= MORE_THAN_MEMORY
+    }
+
+    /// Takes bytes from those that may still be written.
+    ///
+    /// # Errors
+    /// [`Memory`]: fewer are left, and none afterwards. The content is unchanged.
+    pub fn take(&mut self, bytes: usize) -> Result<(), Memory>
+        ensures { self.new ≡ self.old }
+    {
+        take_from(&mut self.room, bytes as u64)
     }
 
     /// The number of open parts, including the root.
@@ -155,10 +277,26 @@ impl FlatTree {
         Ok(())
     }
 
+    /// Appends a text as a child of its own. It is out of line, since a text that joins another needs
+    /// none of its stack.
+    #[inline(never)]
+    fn push_new_text(&mut self, more: &str, formatting: Formatting) -> Result<(), Memory>
+        ensures ok { OnOk result
+            (self.new ≡ with_tokens (spec.text more.now formatting ∷ []) self.old) }
+        ensures err { OnErr result (self.new ≡ self.old) }
+    {
+        take_from(&mut self.room, BYTES_OF_CHILD)?;
+        let room = more.len().saturating_add(ROOM_TO_JOIN);
+        let mut text = String::with_capacity(self.alloc, room)?;
+        text.push_str(more)?;
+        self.push_child(ElemChild::Text(Formatted { text, formatting }))
+    }
+
     /// Appends a text, which joins a last text of equal formatting. An empty text adds nothing.
     ///
     /// # Errors
     /// [`Memory`]: out of memory. The tree is unchanged.
+    #[inline(never)]
     pub fn push_text(&mut self, more: &str, formatting: Formatting) -> Result<(), Memory>
         ensures ok { OnOk result
             (self.new ≡ with_tokens (text_content more.now formatting) self.old) }
@@ -167,13 +305,11 @@ impl FlatTree {
         if more.is_empty() {
             return Ok(());
         }
+        take_from(&mut self.room, more.len() as u64)?;
         if self.join_end(more, formatting)? {
             return Ok(());
         }
-        let room = more.len().saturating_add(ROOM_TO_JOIN);
-        let mut text = String::with_capacity(self.alloc, room)?;
-        text.push_str(more)?;
-        self.push_child(ElemChild::Text(Formatted { text, formatting }))
+        self.push_new_text(more, formatting)
     }
 
     /// Appends a child. A text joins a last text of equal formatting. A text, markup or link with
@@ -188,6 +324,7 @@ impl FlatTree {
         if child.shows_nothing() {
             return Ok(());
         }
+        take_from(&mut self.room, child_bytes(&child))?;
         if let ElemChild::Text(text) = &child {
             if self.join_end(text.text.as_str(), text.formatting)? {
                 return Ok(());
@@ -241,7 +378,7 @@ impl FlatTree {
         ensures err { OnErr result (self.new ≡ self.old) }
     {
         if !self.is_empty() {
-            join_texts(&mut self.children, self.start)?;
+            join_for_elem(&mut self.room, &mut self.children, self.start)?;
             let children = ElemChildren(self.children.split_off(self.start)?);
             self.children.push_reserved(ElemChild::Elem(Elem {
                 children,
@@ -271,7 +408,8 @@ impl FlatTree {
     {
         let end = self.children.len();
         if end > self.start {
-            self.children.reserve(2)?;
+            let bytes = affix_bytes(&before).saturating_add(affix_bytes(&after));
+            reserve_affixes(&mut self.room, &mut self.children, bytes)?;
             put_text(&mut self.children, end, after);
             put_text(&mut self.children, self.start, before);
         }

@@ -213,3 +213,73 @@ fn a_thousand_splices_are_one_text(rt: HostRuntime) {
     assert_same(&rt, &tree.str_len(), &3000);
     assert_same(&rt, &tree.0.len(), &1);
 }
+
+/// A script, and how many bytes of a limit its calls take: each text its own, and each leaf and
+/// element 64 more.
+static TAKEN: [(&str, u64); 16] = [
+    ("", 0),
+    ("=", 0),
+    ("=ab", 66),
+    ("=ab =c", 67),
+    ("=ab /c", 131),
+    ("ab", 66),
+    ("ab c", 67),
+    ("$abc", 67),
+    ("@ab|cde", 69),
+    ("#1", 64),
+    ("()", 64),
+    ("[ ]", 0),
+    ("[ a ]", 129),
+    ("[ a }<|>>", 196),
+    ("[ }<|>>", 0),
+    ("[ a !", 65),
+];
+
+/// What is left of 1,000 bytes after the calls of a script.
+fn room_after(rt: &impl Abort, alloc: Global, script: &str) -> u64 {
+    let mut tree = FlatTree::new(alloc);
+    tree.limit(1000);
+    for word in script.split(' ') {
+        if !word.is_empty() {
+            call(rt, &mut tree, alloc, word);
+        }
+    }
+    let room = tree.room();
+    drop(tree);
+    room
+}
+
+#[test]
+fn calls_take_bytes_of_a_limit(rt: HostRuntime) {
+    let rows: &[(&str, u64)] = &TAKEN;
+    for &(script, taken) in rows {
+        let room = room_after(&rt, rt.alloc(), script);
+        assert_of(&rt, &room, &(1000 - taken), script);
+    }
+}
+
+#[test]
+fn a_call_beyond_the_limit_leaves_the_content(rt: HostRuntime) {
+    let alloc = rt.alloc();
+    let mut tree = FlatTree::new(alloc);
+    tree.limit(67);
+    let plain = Formatting::default();
+    let first = tree.push_text("a", plain).is_ok();
+    let joined = tree.push_text("bc", plain).is_ok();
+    let refused = tree.push_text("d", plain).is_ok();
+    let room = tree.room();
+    let taken = tree.take(1).is_ok();
+    assert_same(
+        &rt,
+        &(first, joined, refused, taken),
+        &(true, true, false, false),
+    );
+    assert_same(&rt, &room, &0);
+    assert_tree(
+        &rt,
+        alloc,
+        contents(&rt, tree),
+        "abc",
+        "a limit of 67 bytes",
+    );
+}

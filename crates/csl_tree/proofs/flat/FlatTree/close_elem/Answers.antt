@@ -6,7 +6,7 @@ use Rattle.csl_tree.specs.Flat.{OpenParts, close_part}
 use Rattle.csl_tree.specs.FlatChildren.{open_parts}
 use Rattle.csl_tree.proofs.Flats.{boxed, closed_with, closed_none, elem_none, without_children, with_children}
 use Rattle.csl_tree.proofs.flat.FlatTree.close_elem.Goals as goal
-use Rattle.csl_tree.proofs.flat.FlatTree.close_elem.Goals.{then-not-is_empty+in_ok-join_texts+in_ok-split_off, else-not-is_empty}
+use Rattle.csl_tree.proofs.flat.FlatTree.close_elem.Goals.{then-not-is_empty+in_ok-join_for_elem+in_ok-split_off, else-not-is_empty}
 
 pub returns-clause-ok : goal.returns-clause-ok
 returns-clause-ok c =
@@ -19,10 +19,10 @@ returns-clause-ok c =
     let is_open : 0 < length old.outer = omega (arith, c.requires.is_open, ap (λ (p : OpenParts). length p.outer) c.self.view_is) in
     let empty : not (has_children old.inner) ≡ c.is_empty.result = ap (λ (p : OpenParts). not (has_children p.inner)) c.self.view_is ∙ sym c.is_empty.ensures in
     elim c.if-not-is_empty.branch [
-      | then-not-is_empty+in_ok-join_texts+in_ok-split_off w ↦ (
-          let joins = w.in_ok-join_texts.ensures in
+      | then-not-is_empty+in_ok-join_for_elem+in_ok-split_off w ↦ (
+          let joins = w.in_ok-join_for_elem.ensures in
           let elem : Elem = record { children = record { 0 = w.in_ok-split_off.field-0 }; display = c.args.display; meta = c.args.meta } in
-          let all = boxed xs w.join_texts.new.children.items w.split_off.new.self.items w.push_reserved.new.self.items start around elem (with_children xs start around (empty ∙ w.if-not-is_empty.true)) joins.before joins.same joins.joined w.in_ok-split_off.ensures.tail w.in_ok-split_off.ensures.items w.push_reserved.ensures.items in
+          let all = boxed xs w.join_for_elem.new.children.items w.split_off.new.self.items w.push_reserved.new.self.items start around elem (with_children xs start around (empty ∙ w.if-not-is_empty.true)) joins.before joins.same joins.joined w.in_ok-split_off.ensures.tail w.in_ok-split_off.ensures.items w.push_reserved.ensures.items in
           c.leave.ensures ∙ ap (λ (p : OpenParts). close_part p.inner p) w.self-is ∙ closed_with (open_parts w.push_reserved.new.self.items start around) old (box old.inner) all is_open ∙ ap close c.self.view_is
           )
       | else-not-is_empty w ↦ (

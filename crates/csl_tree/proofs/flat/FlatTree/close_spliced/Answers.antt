@@ -5,7 +5,7 @@ use Rattle.csl_tree.specs.FlatChildren.{content_of, open_parts}
 use Rattle.csl_tree.specs.declared.elem.ElemChild.{ElemChild}
 use Rattle.csl_tree.proofs.Flats.{spliced, closed_with, closed_none, affixed_none, none_inner}
 use Rattle.csl_tree.proofs.flat.FlatTree.close_spliced.Goals as goal
-use Rattle.csl_tree.proofs.flat.FlatTree.close_spliced.Goals.{then-end-self+in_ok-reserve, else-end-self}
+use Rattle.csl_tree.proofs.flat.FlatTree.close_spliced.Goals.{then-end-self+in_ok-reserve_affixes, else-end-self}
 
 pub returns-clause-ok : goal.returns-clause-ok
 returns-clause-ok c =
@@ -18,9 +18,9 @@ returns-clause-ok c =
     let close = λ (p : OpenParts). close_part (affixed_content b a p.inner) p in
     let is_open : 0 < length old.outer = omega (arith, c.requires.is_open, ap (λ (p : OpenParts). length p.outer) c.self.view_is) in
     elim c.if-end-self.branch [
-      | then-end-self+in_ok-reserve w ↦ (
+      | then-end-self+in_ok-reserve_affixes w ↦ (
           let n = c.len-end.result in
-          let r = w.reserve.ensures.items in
+          let r = w.reserve_affixes.ensures.items in
           let all = spliced xs w.put_text.new.children.items w.put_text-then-end-self.new.children.items n start around b a (omega (arith, c.len-end.ensures, c.self.inside.children.ok.0)) w.if-end-self.true
           (w.put_text.ensures.before ∙ ap (take n) r) (w.put_text.ensures.from ∙ ap (λ (l : List ElemChild). a ++> content_of (drop n l)) r)
           w.put_text-then-end-self.ensures.before w.put_text-then-end-self.ensures.from in
