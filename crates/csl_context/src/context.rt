@@ -255,6 +255,27 @@ impl<'s, T> Context<'s, T> {
         Ok(Rendered { content, state })
     }
 
+    /// Sets how many bytes this context may still write. Each text takes its bytes, each element and
+    /// each text, markup or link of its own 64 more. What is dropped again takes them too. A text
+    /// whose periods are stripped takes its bytes before that as well. Dry runs take none. A call
+    /// that needs more than are left fails as if memory had run out. A new context has no limit.
+    pub fn limit(&mut self, bytes: u64)
+        ensures { self.new ≡ self.old }
+    {
+        self.writing.content.limit(bytes);
+    }
+
+    /// How many bytes this context may still write. Without a limit they are more than memory
+    /// holds.
+    pub fn room(&self) -> u64 {
+        self.writing.content.room()
+    }
+
+    /// Whether the context has a limit of what memory may hold.
+    pub fn is_limited(&self) -> bool {
+        self.writing.content.is_limited()
+    }
+
     /// Marks the context as failed.
     pub fn fail(&mut self)
         ensures { self.new ≡ record self.old { failed = true } }

@@ -35,6 +35,7 @@ impl TextWriter {
         ensures err { OnErr result (parts.new ≡ parts.old) }
     {
         if self.strip_periods {
+            parts.take(text.len())?;
             let text = without_periods(self.alloc, text)?;
             parts.push_text(text.as_str(), self.formatting)
         } else {

@@ -106,6 +106,20 @@ impl<'s, T> Context<'s, T> {
         }
     }
 
+    /// Takes bytes from those that this context may still write, for a text that is made before it
+    /// is written.
+    ///
+    /// # Errors
+    /// [`RenderError::Memory`]: fewer are left. The context has failed.
+    /// [`RenderError::Failed`]: the context had failed already.
+    pub fn charge(&mut self, bytes: usize) -> Result<(), RenderError>
+        ensures { Runs same_context result self.old self.new }
+    {
+        self.ensure_live()?;
+        let taken = self.writing.content.take(bytes);
+        self.or_fail(taken)
+    }
+
     /// A writer of texts with the inherited formatting and stripping.
     pub(crate) fn text_writer(&self) -> TextWriter
         ensures formatting { result.formatting ≡ self.now.inherited.formatting }

@@ -4,6 +4,7 @@
 mod acts;
 mod equal;
 mod film;
+mod limits;
 mod lookups;
 mod queries;
 mod samples;

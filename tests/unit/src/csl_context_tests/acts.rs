@@ -138,7 +138,7 @@ fn instance<'s>(world: World<'s>) -> InstanceContext<'s, Film> {
 }
 
 /// A new context of this world.
-fn new_context<'s>(rt: &impl Abort, world: World<'s>) -> Context<'s, Film> {
+pub(crate) fn new_context<'s>(rt: &impl Abort, world: World<'s>) -> Context<'s, Film> {
     Context::new(world.alloc, world.style, instance(world), Scope::Citation).expect(rt, "memory")
 }
 
