@@ -63,7 +63,7 @@ impl Model for FlatTree {
 #[derive(Clone, Copy)]
 struct Room {
     left: u64,
-    /// Whether more than these were wanted. Then nothing may be written any more.
+    /// Whether a call wanted more than these.
     is_used_up: bool,
 }
 
@@ -186,8 +186,9 @@ impl FlatTree {
     }
 
     /// Sets how many bytes may still be written into the tree. Each text takes its bytes, and each
-    /// element and leaf 64 more, also if it is dropped later. A call that needs more than are left
-    /// fails, as one that finds no memory.
+    /// element and leaf 64 more, also if it is dropped later. Of the texts that join another, those
+    /// of [`FlatTree::push`] take the 64 too. A call that needs more than are left fails, as one
+    /// that finds no memory.
     pub fn limit(&mut self, bytes: u64)
         ensures { self.new ≡ self.old }
     {
@@ -197,7 +198,8 @@ impl FlatTree {
         };
     }
 
-    /// How many bytes may still be written. Without a limit they are more than memory holds.
+    /// How many bytes may still be written, and 0 after a call that wanted more than were left.
+    /// Without a limit they are more than memory holds.
     pub fn room(&self) -> u64 {
         if self.room.is_used_up {
             0
@@ -214,7 +216,7 @@ impl FlatTree {
     /// Takes bytes from those that may still be written.
     ///
     /// # Errors
-    /// [`Memory`]: fewer are left, and none afterwards. The content is unchanged.
+    /// [`Memory`]: fewer are left. The content is unchanged.
     pub fn take(&mut self, bytes: usize) -> Result<(), Memory>
         ensures { self.new ≡ self.old }
     {

@@ -215,7 +215,7 @@ fn a_thousand_splices_are_one_text(rt: HostRuntime) {
 }
 
 /// A script, and how many bytes of a limit its calls take: each text its own, and each leaf and
-/// element 64 more.
+/// element 64 more, also a child that joins the last one.
 static TAKEN: [(&str, u64); 16] = [
     ("", 0),
     ("=", 0),
@@ -223,7 +223,7 @@ static TAKEN: [(&str, u64); 16] = [
     ("=ab =c", 67),
     ("=ab /c", 131),
     ("ab", 66),
-    ("ab c", 67),
+    ("ab c", 131),
     ("$abc", 67),
     ("@ab|cde", 69),
     ("#1", 64),
