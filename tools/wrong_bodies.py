@@ -1,8 +1,17 @@
-"""Edits of a crate's sources, the functions that they change, and what a check of these functions
-says of each."""
+"""Edits of a crate's sources, as its file of edits has them, the functions that they change, and what
+a check of these functions says of each.
+
+edits/CRATE.edits has an entry for each edit: `## NAME`, with `[landing]` if each landing tries it, or
+`[same]` if it means the same as before; comments, lines that begin with `#`; `file:` and pairs of
+`old:` and `new:`, of one line each; then the inputs at which another answer comes, a `witness:` each:
+`row FILE.rows: TEXT`, a row of tests/rows that has this line, or `test NAME`, a test of tests/unit; or
+`twin: NAME`, an edit of the same function that means the same as before. An empty line ends an entry.
+The files of crates/CRATE/must-fail/ have the lines of one entry each, without its heading."""
+import glob
 import os
 import re
-from typing import Iterable
+from dataclasses import dataclass, field
+from typing import Iterable, Iterator
 
 from kit import TOP, Failure
 
@@ -10,10 +19,78 @@ from kit import TOP, Failure
 LOST_NAME = r"has no field|is not in scope|has no `|was not admitted"
 
 
-def edits_in(folder: str) -> list[str]:
-    """The files of the edits right in a folder."""
-    names = sorted(os.listdir(folder)) if os.path.isdir(folder) else []
-    return [f"{folder}/{name}" for name in names if name.endswith(".edit")]
+@dataclass
+class Entry:
+    """An edit as it is written: its crate and its name, its mark, which is `landing`, `same`,
+    `must-fail` or none, its pairs of old and new texts, each with the file of the crate that it is
+    of, its witnesses, and the name of its twin, or none."""
+
+    crate: str
+    name: str
+    mark: str
+    pairs: list[tuple[str, str, str]] = field(default_factory=list)
+    witnesses: list[str] = field(default_factory=list)
+    twin: str = ""
+
+    def read(self, lines: list[str], place: str) -> None:
+        """Reads the lines of an entry. The place is told with what is wrong in them."""
+        file = old = None
+        for line in lines:
+            word, colon, rest = line.partition(":")
+            rest = rest.removeprefix(" ")
+            if word == "file":
+                file = rest.strip()
+            elif word == "old" and file and old is None:
+                old = rest
+            elif word == "new" and file and old is not None:
+                self.pairs.append((file, old, rest))
+                old = None
+            elif word == "witness":
+                self.witnesses.append(rest.strip())
+            elif word == "twin":
+                self.twin = rest.strip()
+            elif not line.startswith("#"):
+                raise Failure(f"{place}: {self.name}: this is no line of an edit here: {line}")
+        if not self.pairs or old is not None:
+            raise Failure(f"{place}: {self.name}: there is no pair of `old:` and `new:`")
+
+    def of_kit(self) -> str:
+        """The edit in the form of the kit, which takes no entry."""
+        return "".join(f"file: {file}\nold: {old}\nnew: {new}\n" for file, old, new in self.pairs)
+
+
+def entries_of(crate: str, top: str = TOP) -> list[Entry]:
+    """The entries of a crate's file of edits, of which no two have one name."""
+    path, found = f"{top}/edits/{crate}.edits", {}
+    if not os.path.exists(path):
+        return []
+    with open(path, encoding="utf-8") as text:
+        parts = re.split(r"\n\n+", text.read().strip("\n"))
+    for heading, *lines in (part.split("\n") for part in parts if part):
+        head = re.fullmatch(r"## (\w+)(?: \[(landing|same)\])?", heading)
+        if head and head[1] not in found:
+            found[head[1]] = Entry(crate, head[1], head[2] or "")
+            found[head[1]].read(lines, f"edits/{crate}.edits")
+        elif head or not all(line.startswith("# ") for line in [heading, *lines]):
+            why = "is there twice" if head else "is no heading of an edit"
+            raise Failure(f"edits/{crate}.edits: this {why}: {heading}")
+    return list(found.values())
+
+
+def entries_of_kit(crate: str, top: str = TOP) -> list[Entry]:
+    """The edits of a crate that `rt ci` tries itself."""
+    found = []
+    for path in sorted(glob.glob(f"{top}/crates/{crate}/must-fail/*.edit")):
+        found.append(Entry(crate, os.path.basename(path).removesuffix(".edit"), "must-fail"))
+        with open(path, encoding="utf-8") as text:
+            found[-1].read(text.read().strip("\n").split("\n"), os.path.relpath(path, top))
+    return found
+
+
+def all_entries(top: str = TOP) -> Iterator[Entry]:
+    """The edits of all crates."""
+    for crate in sorted(os.listdir(f"{top}/crates")):
+        yield from [*entries_of(crate, top), *entries_of_kit(crate, top)]
 
 
 def parameters_in(text: str) -> set[str]:
@@ -83,11 +160,10 @@ class Edit:
     check could not read the edit, and `is_proved` tells whether it left no goal open and proved
     those functions that are in no cycle."""
 
-    def __init__(self, name: str, file: str, top: str = TOP) -> None:
-        self.name, self.file, self.label = name, file, file.removeprefix(f"{top}/")
-        self.crate = f"{top}/crates/{name}"
+    def __init__(self, entry: Entry, top: str = TOP) -> None:
+        self.entry, self.name, self.label = entry, entry.crate, f"{entry.crate}/{entry.name}"
+        self.crate, self.pairs = f"{top}/crates/{entry.crate}", entry.pairs
         self.open, self.fault, self.is_proved = "", "", False
-        self.pairs = self.read()
         # A `use` line is of no function, and proves nothing.
         changed = [place for place, (_, old, _) in zip(self.make({}), self.pairs)
                    if not old.startswith("use ")]
@@ -95,21 +171,6 @@ class Edit:
         self.cycles = {cycle for _, cycle in changed if cycle}
         self.is_code = (bool(self.functions) and "" not in self.functions
                         and all(path.startswith("src/") for path, _, _ in self.pairs))
-
-    def read(self) -> list[tuple[str, str, str]]:
-        """The pairs of the file, each with the file of the crate that it is of."""
-        pairs, path, old = [], "", ""
-        with open(self.file, encoding="utf-8") as text:
-            for line in text.read().split("\n"):
-                word, _, rest = line.partition(":")
-                rest = rest.removeprefix(" ")
-                if word == "file":
-                    path = rest.strip()
-                elif word == "old":
-                    old = rest
-                elif word == "new":
-                    pairs.append((path, old, rest))
-        return pairs
 
     def make(self, texts: dict[str, str]) -> list[tuple[str, str]]:
         """Makes the edit in the crate's texts, by file, and returns the function and the cycle of
