@@ -14,9 +14,8 @@ from typing import Callable
 
 from kit import TARGET, TOP, Failure, kit, words_of_try
 from unproved import Compiled, checked, link
-from wrong_bodies import Entry, all_entries
+from wrong_bodies import HEAD, Entry, all_entries
 
-HEAD = re.compile(r"^( *)(?:pub(?:\([a-z]+\))? )?(?:[a-z]+ )*fn (\w+)", re.M)
 CHOICE = """
 unsafe extern "C" {
     safe fn chosen_body(number: u32) -> bool;

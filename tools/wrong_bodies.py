@@ -28,6 +28,9 @@ REASONS = [FALSE, OTHER, NOT_PROVED, GAVE_UP]
 STEPS = re.compile(r"\b(?:if|else|match|return|for|while|loop|let|break|continue)\b|=>|[?;{]"
                    r"|\b[a-z_]\w*(?=\()")
 
+# The head of a function, up to its name, in a file that `rt fmt` has laid out.
+HEAD = re.compile(r"^( *)(?:pub(?:\([a-z]+\))? )?(?:[a-z]+ )*fn (\w+)", re.M)
+
 
 def reason_of(goal: str) -> str:
     """Why a goal without an answer is open, by the prover's note of it."""
@@ -63,7 +66,7 @@ class Entry:
         """Reads the lines of an entry. The place is told with what is wrong in them."""
         file = old = None
         for line in lines:
-            word, colon, rest = line.partition(":")
+            word, _, rest = line.partition(":")
             rest = rest.removeprefix(" ")
             if word == "file":
                 file = rest.strip()
@@ -116,7 +119,11 @@ def entries_of_kit(crate: str, top: str = TOP) -> list[Entry]:
 
 def all_entries(top: str = TOP) -> Iterator[Entry]:
     """The edits of all crates."""
-    for crate in sorted(os.listdir(f"{top}/crates")):
+    crates = sorted(os.listdir(f"{top}/crates"))
+    for name in sorted(os.listdir(f"{top}/edits")):
+        if name.removesuffix(".edits") not in crates or name in crates:
+            raise Failure(f"edits/{name} is no file of the edits of a crate")
+    for crate in crates:
         yield from [*entries_of(crate, top), *entries_of_kit(crate, top)]
 
 
@@ -150,8 +157,7 @@ def owner(head: str) -> str:
 def function_at(name: str, file: str, text: str, at: int) -> tuple[str, str]:
     """The function around a place of a crate's file, as rt prints its name, and its cycle of calls;
     empty texts outside of functions. The file is as rt fmt lays it out."""
-    head_of_function = r"^( *)(?:pub(?:\([a-z]+\))? )?(?:[a-z]+ )*fn (\w+)"
-    heads = [head for head in re.finditer(head_of_function, text, re.M) if head.start() <= at]
+    heads = [head for head in HEAD.finditer(text) if head.start() <= at]
     last = heads[-1] if heads else None
     if not last or -1 < text.find(f"\n{last[1]}}}", last.end()) < at:
         return "", ""
@@ -195,10 +201,12 @@ class Edit:
 
     def forget(self) -> None:
         """Forgets what a check said, and that the edit was planted in copies of its functions."""
-        self.open = self.why = self.lost = self.fault = ""
+        self.open = self.why = self.lost = ""
         self.is_proved = False
+        places = self.make({})
+        self.fault = "" if places else "an old text of it is not there, or more than once"
         # A `use` line is of no function, and proves nothing.
-        changed = [place for place, (_, old, _) in zip(self.make({}), self.pairs)
+        changed = [place for place, (_, old, _) in zip(places, self.pairs)
                    if not old.startswith("use ")]
         self.functions = {function for function, _ in changed}
         self.cycles = {cycle for _, cycle in changed if cycle}
@@ -226,19 +234,6 @@ class Edit:
             made[file] = made[file].replace(old, new)
         texts.update(made)
         return places
-
-    def fault_of_texts(self) -> str:
-        """Why the edit cannot be made, or an empty text."""
-        made: dict[str, str] = {}
-        for file, old, new in self.pairs:
-            path = f"{self.crate}/{file}"
-            if file not in made and os.path.isfile(path):
-                with open(path, encoding="utf-8") as text:
-                    made[file] = text.read()
-            if (count := made.get(file, "").count(old)) != 1:
-                return f"its old text is there {count} times: {old}"
-            made[file] = made[file].replace(old, new)
-        return ""
 
     def is_apart(self, other: "Edit", cycles_apart: bool) -> bool:
         """Whether the edits change other functions and, if asked, functions of other cycles."""

@@ -13,10 +13,9 @@ import re
 import shutil
 from dataclasses import dataclass
 
-from wrong_bodies import Edit, function_at
+from wrong_bodies import HEAD, Edit, function_at
 
 CONTROL = "as_it_is"
-HEAD = re.compile(r"^( *)(?:pub(?:\([a-z]+\))? )?(?:[a-z]+ )*fn (\w+)", re.M)
 
 
 class Control:
