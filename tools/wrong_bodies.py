@@ -32,11 +32,11 @@ STEPS = re.compile(r"\b(?:if|else|match|return|for|while|loop|let|break|continue
 HEAD = re.compile(r"^( *)(?:pub(?:\([a-z]+\))? )?(?:[a-z]+ )*fn (\w+)", re.M)
 
 
-def reason_of(goal: str) -> str:
-    """Why a goal without an answer is open, by the prover's note of it."""
-    if "allow values at which this goal is false" in goal:
+def reason_of(said: str, other: str) -> str:
+    """Why a goal is open, by what the prover says of it, or the other reason."""
+    if "allow values at which this goal is false" in said:
         return FALSE
-    return GAVE_UP if "gave up at one of its limits" in goal else NOT_PROVED
+    return GAVE_UP if re.search("gave up at one of its limits|stopped at its own", said) else other
 
 
 def steps_of(text: str) -> list[str]:
@@ -338,7 +338,7 @@ class Check:
                 elif re.search(LOST_NAME, error):
                     edit.lost = f"{file}:{line}: {error}"
                 else:
-                    edit.mark(f"{file}:{line}: {error}", OTHER)
+                    edit.mark(f"{file}:{line}: {error}", reason_of(error, OTHER))
         return unread
 
     def read_notes(self) -> None:
@@ -349,7 +349,7 @@ class Check:
             function = self.function_at(file, int(line))
             for edit in self.edits:
                 if function and is_one_of(function, edit.functions):
-                    edit.mark(f"{file}:{line}: {goal}", reason_of(goal))
+                    edit.mark(f"{file}:{line}: {goal}", reason_of(goal, NOT_PROVED))
 
     def read_functions(self) -> None:
         """Marks the edits of whose functions a line says that they are not proved, and those whose
@@ -359,7 +359,7 @@ class Check:
         for function, error in re.findall(unproved, self.said, re.M):
             for edit in self.edits:
                 if edit.is_of(function.replace("::fn::", "::")) and not edit.open:
-                    edit.mark(error, reason_of(error))
+                    edit.mark(error, reason_of(error, NOT_PROVED))
         # The functions of a cycle of calls are proved together or not at all: where another edit of
         # the cycle has an open goal, only the goals can tell.
         proved = re.findall(r"^fn (\S+): proved$", self.said, re.M)
