@@ -6,6 +6,7 @@ import re
 import specs
 from kit import TOP, uses_of_crates
 from sources import Item, bare, impl_of, modules_of
+from wrong_bodies import all_entries
 
 # Names of Rust and of std that stand in the repository for nothing of its own.
 STANDARD = {"Ok", "Err", "None", "Some", "impl", "std", "ensures", "requires", "ghost", "true",
@@ -28,9 +29,7 @@ class Names:
                 for item in module.items:
                     self.add(item)
             self.add_proofs(crate)
-        edits = [*glob.glob(f"{TOP}/edits/**/*.edit", recursive=True),
-                 *glob.glob(f"{TOP}/crates/*/must-fail/*.edit")]
-        self.every.update(os.path.basename(file)[:-5] for file in edits)
+        self.every.update(entry.name for entry in all_entries())
         for at, module in specs.modules_of(specs.crates_of_specs()).items():
             self.every.update([at.rpartition(".")[2], *module.blocks, *module.constructors])
 

@@ -7,7 +7,7 @@ from typing import Iterator
 
 from kit import TOP, kit
 
-SUFFIXES = ("md", "rt", "rs", "antt", "py", "rows", "csl", "json", "xml", "edit", "c")
+SUFFIXES = ("md", "rt", "rs", "antt", "py", "rows", "csl", "json", "xml", "edit", "edits", "c")
 PATH = re.compile(r"[\w.+*{},/-]*\w[\w.+*{},/-]*")
 # What examples invent: the stems of files and folders of a caller, of a language to come, and of a
 # file that there cannot be. And files of the Rust crate.

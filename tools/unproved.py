@@ -13,7 +13,7 @@ import subprocess
 import sys
 import tempfile
 import time
-from typing import Iterable
+from typing import Any, Iterable
 
 from kit import TARGET, TOP, Failure, kit, status_of, words_of_try
 
@@ -93,6 +93,12 @@ class Compiled:
             if os.path.exists(beside) and os.path.getsize(beside) > 100_000:
                 link_anew(beside, self.bitcode, f"{self.base}-{len(self.bitcode)}.bc")
 
+    def keep_all(self, build: subprocess.Popen[Any]) -> None:
+        """Does so as long as a build is at work."""
+        while build.poll() is None:
+            self.keep()
+            time.sleep(0.01)
+
 
 def compiled(crate: str, words: list[str], room: str) -> tuple[list[str], str | None]:
     """What the kit compiles before it runs the program of a crate with these words, unproved: the
@@ -106,9 +112,7 @@ def compiled(crate: str, words: list[str], room: str) -> tuple[list[str], str | 
                                  env={**os.environ, "TMPDIR": found.temp}, start_new_session=True,
                                  stdin=subprocess.DEVNULL, stdout=log, stderr=log)
         try:
-            while build.poll() is None:
-                found.keep()
-                time.sleep(0.01)
+            found.keep_all(build)
         finally:
             if build.poll() is None:
                 os.killpg(build.pid, signal.SIGTERM)

@@ -1,19 +1,130 @@
-"""Edits of a crate's sources, the functions that they change, and what a check of these functions
-says of each."""
+"""Edits of a crate's sources, as its file of edits has them, the functions that they change, and
+what a check of these functions says of each.
+
+edits/CRATE.edits has an entry for each edit: `## NAME`, with `[landing]` if each landing tries it,
+or `[same]` if it means the same as before; comments, lines that begin with `#`; `file:` and pairs
+of `old:` and `new:`, of one line each; then the inputs at which another answer comes, a `witness:`
+each: `row FILE.rows: TEXT`, a row of tests/rows that has this line, or `test NAME`, a test of
+tests/unit; or `twin: NAME`, an edit of the same function that means the same as before. An empty
+line ends an entry. The files of crates/CRATE/must-fail/ have the lines of one entry each, without
+its heading."""
+import glob
 import os
 import re
-from typing import Iterable
+from dataclasses import dataclass, field
+from typing import Iterable, Iterator
 
 from kit import TOP, Failure
 
 # What is said of a proof file that names what an edit took away: it shows nothing of the contract.
 LOST_NAME = r"has no field|is not in scope|has no `|was not admitted"
+# Why a goal is open, as the prover says it, the strongest reason first: there are values at which
+# it is false; the answer of a proof file does not fit; the search for a proof found none, or gave
+# up at a limit. Only the first is never said of a right body.
+FALSE, OTHER, NOT_PROVED, GAVE_UP = ("false by values", "the answer does not fit", "not proved",
+                                     "gave up")
+REASONS = [FALSE, OTHER, NOT_PROVED, GAVE_UP]
+# The words of a step, a branch, a loop or a call.
+STEPS = re.compile(r"\b(?:if|else|match|return|for|while|loop|let|break|continue)\b|=>|[?;{]"
+                   r"|\b[a-z_]\w*(?=\()")
+
+# The head of a function, up to its name, in a file that `rt fmt` has laid out.
+HEAD = re.compile(r"^( *)(?:pub(?:\([a-z]+\))? )?(?:[a-z]+ )*fn (\w+)", re.M)
 
 
-def edits_in(folder: str) -> list[str]:
-    """The files of the edits right in a folder."""
-    names = sorted(os.listdir(folder)) if os.path.isdir(folder) else []
-    return [f"{folder}/{name}" for name in names if name.endswith(".edit")]
+def reason_of(said: str, other: str) -> str:
+    """Why a goal is open, by what the prover says of it, or the other reason."""
+    if "allow values at which this goal is false" in said:
+        return FALSE
+    return GAVE_UP if re.search("gave up at one of its limits|stopped at its own", said) else other
+
+
+def steps_of(text: str) -> list[str]:
+    """The steps, branches, loops and calls of a text, without what is in literals."""
+    return STEPS.findall(re.sub(r'"(?:\\.|[^"\\])*"', '""', text))
+
+
+@dataclass
+class Entry:
+    """An edit as it is written: its crate and its name, its mark, which is `landing`, `same`,
+    `must-fail` or none, its pairs of old and new texts, each with the file of the crate that it is
+    of, its witnesses, and the name of its twin, or none."""
+
+    crate: str
+    name: str
+    mark: str
+    pairs: list[tuple[str, str, str]] = field(default_factory=list)
+    witnesses: list[str] = field(default_factory=list)
+    twin: str = ""
+
+    @property
+    def label(self) -> str:
+        """The name of the edit among those of all crates."""
+        return f"{self.crate}/{self.name}"
+
+    def read(self, lines: list[str], place: str) -> None:
+        """Reads the lines of an entry. The place is told with what is wrong in them."""
+        file = old = None
+        for line in lines:
+            word, _, rest = line.partition(":")
+            rest = rest.removeprefix(" ")
+            if word == "file":
+                file = rest.strip()
+            elif word == "old" and file and old is None:
+                old = rest
+            elif word == "new" and file and old is not None:
+                self.pairs.append((file, old, rest))
+                old = None
+            elif word == "witness":
+                self.witnesses.append(rest.strip())
+            elif word == "twin":
+                self.twin = rest.strip()
+            elif not line.startswith("#"):
+                raise Failure(f"{place}: {self.name}: this is no line of an edit here: {line}")
+        if not self.pairs or old is not None:
+            raise Failure(f"{place}: {self.name}: there is no pair of `old:` and `new:`")
+
+    def of_kit(self) -> str:
+        """The edit in the form of the kit, which takes no entry."""
+        return "".join(f"file: {file}\nold: {old}\nnew: {new}\n" for file, old, new in self.pairs)
+
+
+def entries_of(crate: str, top: str = TOP) -> list[Entry]:
+    """The entries of a crate's file of edits, of which no two have one name."""
+    path, found = f"{top}/edits/{crate}.edits", {}
+    if not os.path.exists(path):
+        return []
+    with open(path, encoding="utf-8") as text:
+        parts = re.split(r"\n\n+", text.read().strip("\n"))
+    for heading, *lines in (part.split("\n") for part in parts if part):
+        head = re.fullmatch(r"## (\w+)(?: \[(landing|same)\])?", heading)
+        if head and head[1] not in found:
+            found[head[1]] = Entry(crate, head[1], head[2] or "")
+            found[head[1]].read(lines, f"edits/{crate}.edits")
+        elif head or not all(line.startswith("# ") for line in [heading, *lines]):
+            why = "is there twice" if head else "is no heading of an edit"
+            raise Failure(f"edits/{crate}.edits: this {why}: {heading}")
+    return list(found.values())
+
+
+def entries_of_kit(crate: str, top: str = TOP) -> list[Entry]:
+    """The edits of a crate that `rt ci` tries itself."""
+    found = []
+    for path in sorted(glob.glob(f"{top}/crates/{crate}/must-fail/*.edit")):
+        found.append(Entry(crate, os.path.basename(path).removesuffix(".edit"), "must-fail"))
+        with open(path, encoding="utf-8") as text:
+            found[-1].read(text.read().strip("\n").split("\n"), os.path.relpath(path, top))
+    return found
+
+
+def all_entries(top: str = TOP) -> Iterator[Entry]:
+    """The edits of all crates."""
+    crates = sorted(os.listdir(f"{top}/crates"))
+    for name in sorted(os.listdir(f"{top}/edits")):
+        if name.removesuffix(".edits") not in crates or name in crates:
+            raise Failure(f"edits/{name} is no file of the edits of a crate")
+    for crate in crates:
+        yield from [*entries_of(crate, top), *entries_of_kit(crate, top)]
 
 
 def parameters_in(text: str) -> set[str]:
@@ -46,8 +157,7 @@ def owner(head: str) -> str:
 def function_at(name: str, file: str, text: str, at: int) -> tuple[str, str]:
     """The function around a place of a crate's file, as rt prints its name, and its cycle of calls;
     empty texts outside of functions. The file is as rt fmt lays it out."""
-    head_of_function = r"^( *)(?:pub(?:\([a-z]+\))? )?(?:[a-z]+ )*fn (\w+)"
-    heads = [head for head in re.finditer(head_of_function, text, re.M) if head.start() <= at]
+    heads = [head for head in HEAD.finditer(text) if head.start() <= at]
     last = heads[-1] if heads else None
     if not last or -1 < text.find(f"\n{last[1]}}}", last.end()) < at:
         return "", ""
@@ -79,37 +189,35 @@ class Edit:
     """An edit of a crate of a checkout: its pairs of old and new texts, by file, the functions that
     they change, and the cycles of calls of these.
 
-    After a check of these functions `open` is an open goal of one of them, `fault` says why the
-    check could not read the edit, and `is_proved` tells whether it left no goal open and proved
-    those functions that are in no cycle."""
+    After a check of these functions `open` is an open goal of one of them and `why` the reason,
+    `lost` tells of a name that the edit took away from a proof file, `fault` says why the check
+    could not read the edit, and `is_proved` tells whether it left no goal open and proved those
+    functions, of which only those in a cycle with another's open goal need not be named."""
 
-    def __init__(self, name: str, file: str, top: str = TOP) -> None:
-        self.name, self.file, self.label = name, file, file.removeprefix(f"{top}/")
-        self.crate = f"{top}/crates/{name}"
-        self.open, self.fault, self.is_proved = "", "", False
-        self.pairs = self.read()
+    def __init__(self, entry: Entry, top: str = TOP) -> None:
+        self.entry, self.name, self.label = entry, entry.crate, entry.label
+        self.crate, self.pairs = f"{top}/crates/{entry.crate}", entry.pairs
+        self.forget()
+
+    def forget(self) -> None:
+        """Forgets what a check said, and that the edit was planted in copies of its functions."""
+        self.open = self.why = self.lost = ""
+        self.is_proved = False
+        places = self.make({})
+        self.fault = "" if places else "an old text of it is not there, or more than once"
         # A `use` line is of no function, and proves nothing.
-        changed = [place for place, (_, old, _) in zip(self.make({}), self.pairs)
+        changed = [place for place, (_, old, _) in zip(places, self.pairs)
                    if not old.startswith("use ")]
         self.functions = {function for function, _ in changed}
         self.cycles = {cycle for _, cycle in changed if cycle}
         self.is_code = (bool(self.functions) and "" not in self.functions
                         and all(path.startswith("src/") for path, _, _ in self.pairs))
+        self.places = frozenset(self.functions)
 
-    def read(self) -> list[tuple[str, str, str]]:
-        """The pairs of the file, each with the file of the crate that it is of."""
-        pairs, path, old = [], "", ""
-        with open(self.file, encoding="utf-8") as text:
-            for line in text.read().split("\n"):
-                word, _, rest = line.partition(":")
-                rest = rest.removeprefix(" ")
-                if word == "file":
-                    path = rest.strip()
-                elif word == "old":
-                    old = rest
-                elif word == "new":
-                    pairs.append((path, old, rest))
-        return pairs
+    def mark(self, goal: str, why: str) -> None:
+        """Marks that a goal is open. The one with the strongest reason is kept."""
+        if not self.open or REASONS.index(why) < REASONS.index(self.why):
+            self.open, self.why = goal, why
 
     def make(self, texts: dict[str, str]) -> list[tuple[str, str]]:
         """Makes the edit in the crate's texts, by file, and returns the function and the cycle of
@@ -141,6 +249,27 @@ class Edit:
 Batch = tuple[list[Edit], dict[str, str]]
 
 
+def fault_of_twin(edit: Edit, others: list[Edit]) -> str:
+    """Why the twin that an edit names is none, or an empty text. A twin means the same as before,
+    and differs from the edit only in values: it has its steps, branches, loops and calls, literals
+    aside. So if the prover has a proof of it, it refuses the edit for what this does."""
+    twin = next((it for it in others if it.entry.name == edit.entry.twin), None)
+    if twin is None or twin.entry.mark != "same":
+        return f"no edit {edit.entry.twin} means the same as before"
+    made: dict[str, str] = {}
+    twins: dict[str, str] = {}
+    if not edit.make(made) or not twin.make(twins):
+        return "its old text or that of its twin is not there once"
+    if twin.places != edit.places:
+        return f"its twin changes {' '.join(sorted(twin.places))}"
+    if all(re.sub(r"[\s()]", "", old) == re.sub(r"[\s()]", "", new) for _, old, new in twin.pairs):
+        return "its twin is the unchanged body"
+    if twins == made:
+        return "its twin is the edit itself"
+    steps = [[steps_of(text[file]) for file in sorted(text)] for text in (made, twins)]
+    return "" if steps[0] == steps[1] else "its twin has other steps"
+
+
 def batches_of(edits: list[Edit], cycles_apart: bool) -> list[Batch]:
     """Lists of edits of a crate that can be made at once. With `cycles_apart` no two are in one
     cycle of calls."""
@@ -168,9 +297,13 @@ class Check:
         self.is_shared = len(set(cycles)) < len(cycles)
 
     def function_at(self, file: str, line: int) -> str:
-        """The function around a line of a source, or an empty text."""
+        """The function around a line of a source, or an empty text. A goal of a whole function is
+        told at the first of its attributes."""
         text = self.texts.get(file, "")
-        end = len("\n".join(text.split("\n")[:line]))
+        lines = text.split("\n")
+        while line < len(lines) and re.match(r" *(?:#\[|//)", lines[line - 1]):
+            line += 1
+        end = len("\n".join(lines[:line]))
         return function_at(self.name, file, text, end)[0]
 
     def edits_at(self, file: str, line: int) -> list[Edit]:
@@ -195,15 +328,17 @@ class Check:
         unread = []
         # (after a long name the rest is on the next line)
         error_at = (r"^(?:\./)?((?:src|proofs)/\S+?):(\d+):\d+: "
-                    rf"(error.*(?:\n  (?:{LOST_NAME}).*)?)")
+                    rf"(error.*(?:\n  .*(?:{LOST_NAME}).*)?)")
         for file, line, error in re.findall(error_at, self.said, re.M):
             for edit in self.edits_at(file, int(line)):
                 if not file.startswith("proofs/"):
                     if edit not in unread:
                         edit.fault = f"{file}:{line}: {error}"
                         unread.append(edit)
-                elif not re.search(LOST_NAME, error):
-                    edit.open = edit.open or f"{file}:{line}: {error}"
+                elif re.search(LOST_NAME, error):
+                    edit.lost = f"{file}:{line}: {error}"
+                else:
+                    edit.mark(f"{file}:{line}: {error}", reason_of(error, OTHER))
         return unread
 
     def read_notes(self) -> None:
@@ -214,7 +349,7 @@ class Check:
             function = self.function_at(file, int(line))
             for edit in self.edits:
                 if function and is_one_of(function, edit.functions):
-                    edit.open = edit.open or f"{file}:{line}: {goal}"
+                    edit.mark(f"{file}:{line}: {goal}", reason_of(goal, NOT_PROVED))
 
     def read_functions(self) -> None:
         """Marks the edits of whose functions a line says that they are not proved, and those whose
@@ -223,15 +358,17 @@ class Check:
         unproved = r"^fn (\S+): (.*`search` did not prove.*)"
         for function, error in re.findall(unproved, self.said, re.M):
             for edit in self.edits:
-                if edit.is_of(function.replace("::fn::", "::")):
-                    edit.open = edit.open or error
-        # The functions of a cycle of calls are proved together or not at all, so of these only the
-        # open goals can tell.
+                if edit.is_of(function.replace("::fn::", "::")) and not edit.open:
+                    edit.mark(error, reason_of(error, NOT_PROVED))
+        # The functions of a cycle of calls are proved together or not at all: where another edit of
+        # the cycle has an open goal, only the goals can tell.
         proved = re.findall(r"^fn (\S+): proved$", self.said, re.M)
+        open_cycles = {cycle for edit in self.edits if edit.open for cycle in edit.cycles}
         for edit in self.edits:
             is_told = all(any(is_one_of(named, [function]) for named in proved)
                           for function in edit.functions)
-            edit.is_proved = self.is_ended and not edit.open and (is_told or bool(edit.cycles))
+            is_told = is_told or bool(edit.cycles & open_cycles)
+            edit.is_proved = self.is_ended and edit.is_code and not edit.open and is_told
 
 
 def read_check(folder: str, edits: list[Edit], texts: dict[str, str], said: str) -> list[Edit]:

@@ -1,0 +1,208 @@
+"""Wrong bodies in an unproved program. A body B of a function becomes `{ if chosen_body(7) { B' }
+else { B } }`, where B' is the body as the seventh edit has it, and `tools/chosen_body.c`, which is
+linked to the program, reads the number from its environment. So one build has any number of wrong
+bodies, and without a number it is the program as it is. What is planted stands in a copy of the
+checkout.
+
+An edit changes bodies alone, and perhaps heads of functions and `use` lines, which are then changed
+for all: names that are visible to more, and imports that nothing uses, change no answer."""
+import os
+import re
+import subprocess
+import threading
+from typing import Callable
+
+from kit import TARGET, TOP, Failure, kit, words_of_try
+from unproved import Compiled, checked, link
+from wrong_bodies import HEAD, Entry, all_entries
+
+CHOICE = """
+unsafe extern "C" {
+    safe fn chosen_body(number: u32) -> bool;
+}
+"""
+# A body that an edit changes: its file, and where it begins and ends there.
+Place = tuple[str, int, int]
+
+
+def bodies_of(text: str) -> list[tuple[int, int]]:
+    """Where the bodies of functions begin and end in a file that `rt fmt` has laid out, braces
+    included. A function within another is part of that one's body."""
+    found, end = [], 0
+    for head in HEAD.finditer(text):
+        close = text.find(f"\n{head[1]}}}", head.end())
+        if head.start() < end or close < 0:
+            continue
+        # After clauses the brace has a line of its own.
+        alone = re.compile(rf"^{head[1]}\{{$", re.M).search(text, head.end(), close + 1)
+        ends = re.compile(r" \{$|;$", re.M).search(text, head.end(), close + 1)
+        if alone:
+            start = alone.start() + len(head[1])
+        elif ends and text[ends.start()] == " ":
+            start = ends.start() + 1
+        else:
+            continue
+        end = close + 1 + len(head[1]) + 1
+        found.append((start, end))
+    return found
+
+
+def is_in_body(text: str, old: str) -> bool:
+    """Whether a text of a file, without the space before it, begins in a body."""
+    at = text.index(old) + len(old) - len(old.lstrip())
+    return any(start <= at < end for start, end in bodies_of(text))
+
+
+def is_constant(text: str, start: int) -> bool:
+    """Whether a body is that of a function which is computed while the program is compiled."""
+    return "const " in [it for it in HEAD.finditer(text) if it.start() < start][-1][0]
+
+
+class Planting:
+    """The wrong bodies of a checkout's copy: of each body that is changed the numbers and the other
+    bodies, the lines outside of bodies that are changed for all, and why an edit is not planted, by
+    its number."""
+
+    def __init__(self, checkout: str) -> None:
+        self.checkout = checkout
+        self.bodies: dict[Place, list[tuple[int, str]]] = {}
+        self.lines: dict[tuple[str, str], str] = {}
+        self.faults: dict[int, str] = {}
+        self.texts: dict[str, str] = {}
+
+    def text_of(self, file: str) -> str:
+        """The text of a file of the copy, as it is without an edit."""
+        if file not in self.texts:
+            with open(f"{self.checkout}/{file}", encoding="utf-8") as source:
+                self.texts[file] = source.read()
+        return self.texts[file]
+
+    def add(self, number: int, entry: Entry) -> None:
+        """Adds an edit under a number, or notes why it cannot be planted."""
+        edited: dict[str, str] = {}
+        lines: dict[tuple[str, str], str] = {}
+        for path, old, new in entry.pairs:
+            file = f"crates/{entry.crate}/{path}"
+            if not os.path.isfile(f"{self.checkout}/{file}"):
+                self.faults[number] = f"there is no {path}"
+                return
+            text = edited.get(file, self.text_of(file))
+            if text.count(old) != 1:
+                self.faults[number] = f"its old text is there {text.count(old)} times: {old}"
+                return
+            if not is_in_body(text, old):
+                lines[file, old] = new
+            edited[file] = text.replace(old, new)
+        self.faults[number] = self.fault_of(edited, lines)
+        if not self.faults[number]:
+            del self.faults[number]
+            self.lines.update(lines)
+            for file, text in edited.items():
+                self.add_bodies(number, file, text)
+
+    def fault_of(self, edited: dict[str, str], lines: dict[tuple[str, str], str]) -> str:
+        """Why an edit cannot be planted, or an empty text."""
+        for (file, old), new in lines.items():
+            if not re.match(r"\s*use ", old) and not HEAD.match(old.lstrip()):
+                return f"it changes what is in no body: {old}"
+            if self.lines.get((file, old), new) != new:
+                return f"another edit changes the same line: {old}"
+        changed = 0
+        for file, text in edited.items():
+            before, after = bodies_of(self.text_of(file)), bodies_of(text)
+            if len(before) != len(after):
+                return f"it changes the number of functions in {file}"
+            for (start, end), (other_start, other_end) in zip(before, after):
+                is_changed = self.text_of(file)[start:end] != text[other_start:other_end]
+                if is_changed and is_constant(text, other_start):
+                    return "it changes a function that is a constant"
+                changed += is_changed
+        return "" if changed else "it changes no body"
+
+    def add_bodies(self, number: int, file: str, text: str) -> None:
+        """Adds the bodies of a file in which an edited text differs."""
+        for (start, end), (other_start, other_end) in zip(bodies_of(self.text_of(file)),
+                                                          bodies_of(text)):
+            body = text[other_start:other_end]
+            if self.text_of(file)[start:end] != body:
+                self.bodies.setdefault((file, start, end), []).append((number, body))
+
+    def text_with(self, file: str) -> str:
+        """The text of a file with all its bodies."""
+        text = self.text_of(file)
+        places = sorted((it for it in self.bodies if it[0] == file), key=lambda it: -it[1])
+        for _, start, end in places:
+            others = "".join(f"if chosen_body({number}) {body} else "
+                             for number, body in self.bodies[file, start, end])
+            text = f"{text[:start]}{{\n{others}{text[start:end]}\n}}{text[end:]}"
+        for (at, old), new in self.lines.items():
+            text = text.replace(old, new) if at == file else text
+        return text + (CHOICE if places else "")
+
+    def write(self) -> None:
+        """Writes the files with all bodies."""
+        for file in {place[0] for place in self.bodies} | {file for file, _ in self.lines}:
+            text = self.text_with(file)
+            with open(f"{self.checkout}/{file}", "w", encoding="utf-8") as source:
+                source.write(text)
+
+
+def planting_of(checkout: str, entries: list[Entry]) -> Planting:
+    """What there is to plant in a copy of the checkout, numbered from 1 on."""
+    planting = Planting(checkout)
+    for number, entry in enumerate(entries, 1):
+        planting.add(number, entry)
+    return planting
+
+
+def with_choice(words: list[str], room: str) -> list[str]:
+    """The words of a build, to which the choice of a body is linked too."""
+    tool = f"{kit()}/toolchain/bin"
+    checked([f"{tool}/clang", f"--target={TARGET}", "-O2", "-fPIC", "-c",
+             f"{TOP}/tools/chosen_body.c", "-o", f"{room}/chosen_body.o"])
+    checked([f"{tool}/llvm-ar", "rcs", f"{room}/chosen_body.a", f"{room}/chosen_body.o"])
+    at = words.index("--link")
+    return [*words[:at], "--link", f"{room}/chosen_body.a", *words[at:]]
+
+
+def name_at(checkout: str, names: list[str], said: str) -> str:
+    """The name of the edit that the compiler does not take, by the first place that it tells."""
+    for file, line in re.findall(r"^(\S+\.rt):(\d+):\d+: error", said, re.M):
+        for path in (file, f"{checkout}/{file}"):
+            if os.path.isfile(path):
+                with open(path, encoding="utf-8") as source:
+                    above = "".join(source.readlines()[:int(line)])
+                numbers = re.findall(r"\bchosen_body\((\d+)\)", above)
+                return names[int(numbers[-1]) - 1] if numbers else ""
+    return ""
+
+
+def built(crate: str, listed: str, program: str, is_test: bool,
+          tell: Callable[[str], object]) -> int:
+    """Plants the edits that a file lists in a crate that was laid out, and has the kit build and
+    run it: its tests, or its program for a moment. Tells each line that is printed, and leaves the
+    program in a file. Returns the kit's status."""
+    name, checkout = os.path.basename(crate), os.path.dirname(os.path.dirname(crate))
+    room = os.path.dirname(checkout)
+    entries = {it.label: it for it in all_entries()}
+    with open(listed, encoding="utf-8") as lines:
+        names = lines.read().split()
+    planting_of(checkout, [entries[name] for name in names]).write()
+    words = with_choice(words_of_try(name, checkout, None if is_test else []), room)
+    kept = Compiled(room, name)
+    said = []
+    with subprocess.Popen(words, cwd=crate, env={**os.environ, "TMPDIR": kept.temp}, text=True,
+                          stdin=subprocess.DEVNULL, stdout=subprocess.PIPE,
+                          stderr=subprocess.STDOUT) as run:
+        watch = threading.Thread(target=kept.keep_all, args=[run])
+        watch.start()
+        for line in run.stdout or ():
+            said.append(line)
+            tell(line)
+        watch.join()
+    objects = list(kept.objects.values())
+    if not objects:
+        named = name_at(checkout, names, "".join(said))
+        raise Failure(f"{name} is not built with the wrong bodies: {named or said[-1:]}")
+    link(program, [objects[-1], f"{room}/chosen_body.o"])
+    return run.returncode
