@@ -1,6 +1,6 @@
 """A program that nothing proves, compiled as `rattle build` compiles a proved one. It is the
 bitcode of an unproved build without its run-time checks, and with those functions out of line that
-the sources keep so. For the tools that count instructions and stack."""
+the sources keep so. For the tools that count instructions and stack of tools/works."""
 import glob
 import os
 import re
@@ -17,6 +17,11 @@ COMPILED = """-march=x86-64 -mllvm -no-trap-after-noreturn -ffunction-sections -
     -mllvm -disable-postra-machine-licm -mllvm -sink-common-insts=false --no-default-config
     -no-canonical-prefixes -fintegrated-cc1 -fno-crash-diagnostics -Werror -c -x ir -fPIE
     -O3""".split()
+
+
+# The functions of tools/works that are no works: what they call would take time, and change how
+# the compiler puts functions in line.
+NOT_COUNTED = re.compile(r'@"(?:works::uses::(?:text|html)|csl_cli::program::status)(?:::<.*>)?"\(')
 
 
 class OtherKit(Failure):
@@ -71,6 +76,19 @@ def out_of_line(checkout: str) -> set[str]:
     return names
 
 
+def counted(text: Iterable[str]) -> Iterator[str]:
+    """The program without the bodies of what is not counted."""
+    is_left_out = False
+    for line in text:
+        if is_left_out:
+            is_left_out = line != "}\n"
+            continue
+        yield line
+        if line.startswith("define ") and NOT_COUNTED.search(line):
+            yield "  unreachable\n}\n"
+            is_left_out = True
+
+
 def unchecked(text: Iterable[str], kept: re.Pattern[str]) -> Iterator[str]:
     """The program without its run-time checks: as in a proved program, it never reaches a place
     where they would stop it. It keeps these functions out of line."""
@@ -96,7 +114,7 @@ def built(crate: str, words: list[str], room: str, kept: Iterable[str] = (),
     subprocess.run([*clang, *plain, checked, "-o", f"{room}/checked.ll"], check=True)
     heads = re.compile(rf'@"?(?:{functions})(::<|"|\()')
     with open(f"{room}/checked.ll") as text, open(f"{room}/program.ll", "w") as plain_text:
-        plain_text.writelines(unchecked(text, heads))
+        plain_text.writelines(unchecked(counted(text), heads))
     subprocess.run([*clang, *COMPILED, f"{room}/program.ll", "-o", f"{room}/program.o"], check=True)
     program = f"{room}/program"
     linked = ["--target", TARGET, "--toolchain", tools, "-o", program, f"{room}/program.o"]

@@ -1,7 +1,5 @@
 //! The work of the program `csl_cite` as a library. [`run::run`] does all of it, over any two
-//! writers.
-//!
-//! An error that the docs of a call do not explain means out of memory.
+//! writers; [`program`] hands it the arguments and the standard streams.
 //!
 //! An error that the docs of a call do not explain means out of memory.
 #![tactic(auto)]
@@ -9,4 +7,6 @@
 mod answers;
 mod command;
 mod content;
+pub mod program;
 pub mod run;
+mod streams;

@@ -1,7 +1,7 @@
 //! The reasons why a work fails.
 
 use csl::literature::NumericError;
-use csl::{HtmlError, Memory, RenderError, StyleError};
+use csl::{Error, HtmlError, Memory, RenderError, StyleError};
 use std::alloc::{AllocError, AllocFailed};
 use std::fmt;
 
@@ -72,6 +72,19 @@ impl From<RenderError> for WorkError {
         match error {
             RenderError::Memory => WorkError::Memory,
             RenderError::Failed => WorkError::Unexpected("the context had failed"),
+        }
+    }
+}
+
+/// A text refuses what is added to it only if memory runs out.
+impl From<Error> for WorkError {
+    fn from(error: Error) -> WorkError {
+        match error {
+            Error::Memory | Error::Refused => WorkError::Memory,
+            Error::Style(error) => error.into(),
+            Error::NotNumeric => WorkError::Unexpected("not numeric"),
+            Error::NotHtml => WorkError::Unexpected("not html"),
+            Error::DateOutOfRange => WorkError::Unexpected("month or day out of range"),
         }
     }
 }

@@ -6,9 +6,13 @@
 //! - `works refuse NAME` does a task of allocating calls, most of which `csl_cite` does not make.
 //!   `tools/refuse_memory` refuses each allocation in turn. A call that runs out of memory is
 //!   repeated once on the same value, so the result reveals a value that the failed call changed.
+//! - `works uses` prints what the examples of `csl_uses` make (`tools/works/uses.stdout`), and
+//!   `works uses page` the web page among it.
 //!
-//! It prints its words and the result of the work. `tools/works/stdout` has a line for each work. If
-//! memory runs out, the status is 3 and standard output is empty.
+//! The others print their words and the result of the work; `tools/works/stdout` has a line for
+//! each. If memory runs out, the status is 3 and standard output is empty.
+//!
+//! With any other words, or with none, it is the program `csl_cite`.
 #![tactic(auto)]
 
 mod bench;
@@ -17,14 +21,12 @@ mod error;
 mod nodes;
 mod refuse;
 mod trees;
+mod uses;
 
+use csl_cli::program;
 use error::WorkError;
 use std::alloc::Global;
-use std::env;
 use std::process::ExitCode;
-use std::rt::Env;
-
-const USAGE: WorkError = WorkError::Unexpected("works bench|deep NAME N, or works refuse NAME");
 
 /// Does a work of a size or depth, and returns its line.
 fn sized(alloc: Global, kind: &str, name: &str, size: &str) -> Result<String, WorkError> {
@@ -33,45 +35,53 @@ fn sized(alloc: Global, kind: &str, name: &str, size: &str) -> Result<String, Wo
     };
     let count = match kind {
         "bench" => bench::count(alloc, name, size)?,
-        "deep" => deep::count(alloc, name, size)?,
-        _ => return Err(USAGE),
+        _ => deep::count(alloc, name, size)?,
     };
     Ok(format!(in alloc; "{kind} {name} {size}: {count}\n")?)
 }
 
-/// Does the work that the words name, and returns its line.
-fn line(alloc: Global, words: &[String]) -> Result<String, WorkError> {
-    match words {
-        [kind, name, size] => sized(alloc, kind.as_str(), name.as_str(), size.as_str()),
+/// Does the work that the words name, and returns what it prints; `None` if they name no kind of
+/// work.
+fn text(alloc: Global, words: &[String]) -> Result<Option<String>, WorkError> {
+    let text = match words {
+        [kind, name, size] if matches!(kind.as_str(), "bench" | "deep") => {
+            sized(alloc, kind.as_str(), name.as_str(), size.as_str())?
+        }
         [kind, name] if kind.as_str() == "refuse" => {
             let result = refuse::result(alloc, name.as_str())?;
-            Ok(format!(in alloc; "refuse {name}: {result}\n")?)
+            format!(in alloc; "refuse {name}: {result}\n")?
         }
-        _ => Err(USAGE),
-    }
-}
-
-/// Does the work that the words name, and prints its line.
-fn run(rt: &(impl Env + Print + AllocGlobal)) -> Result<(), WorkError> {
-    let Ok(mut words) = env::args(rt) else {
-        return Err(WorkError::Memory);
+        [kind] if kind.as_str() == "uses" => uses::text(alloc)?,
+        [kind, name] if kind.as_str() == "uses" && name.as_str() == "page" => uses::html(alloc)?,
+        _ => return Ok(None),
     };
-    let _program = words.next();
-    let words: Vec<String> = words.collect(rt.alloc())?;
-    let line = line(rt.alloc(), &words)?;
-    match rt.print(line.as_str()) {
-        Ok(()) => Ok(()),
-        Err(_) => Err(WorkError::Unexpected("no standard output")),
-    }
+    Ok(Some(text))
 }
 
-fn main(rt: HostRuntime) -> ExitCode {
-    let (status, reason) = match run(&rt) {
-        Ok(()) => return ExitCode::SUCCESS,
+/// Prints what a work makes, or why it fails, and returns the status.
+fn print(rt: &(impl Print + Eprint), made: Result<String, WorkError>) -> u8 {
+    let (status, reason) = match made {
+        Ok(text) => match rt.print(text.as_str()) {
+            Ok(()) => return 0,
+            Err(_) => (1, "no standard output"),
+        },
         Err(WorkError::Memory) => (3, "out of memory"),
         Err(WorkError::Unexpected(reason)) => (1, reason),
     };
     // If this line cannot be printed, the status still reports the failure.
     let _ = rt.eprintln(reason);
-    ExitCode::from(status)
+    status
+}
+
+fn main(rt: HostRuntime) -> ExitCode {
+    let words = program::arguments(&rt);
+    let made = match &words {
+        Ok(words) => text(rt.alloc(), words.as_slice()),
+        Err(_) => Ok(None),
+    };
+    ExitCode::from(match made {
+        Ok(None) => program::status(&rt, words),
+        Ok(Some(text)) => print(&rt, Ok(text)),
+        Err(error) => print(&rt, Err(error)),
+    })
 }

@@ -1,9 +1,9 @@
 //! Contents as styles leave them, to see what `finish` does with them.
 
-use crate::finish;
 use csl::style::{Layout, StyleSettings};
 use csl::tree::{Elem, ElemChild, Formatting};
 use csl::{ElemChildren, Error, Locale, Style};
+use csl_uses::finish::finish;
 use std::alloc::Global;
 
 /// The texts of some contents, each text the output of one node.
@@ -47,6 +47,11 @@ fn content(alloc: Global, texts: &[&str]) -> Result<ElemChildren, Error> {
     Ok(ElemChildren(children))
 }
 
+/// A text, an address that is a link, and a period.
+pub fn with_address(alloc: Global) -> Result<ElemChildren, Error> {
+    content(alloc, &["See ", "https://example.org/a", "."])
+}
+
 /// A style whose locale leaves commas and periods outside of quotes.
 ///
 /// # Errors
@@ -64,7 +69,7 @@ pub fn finished(alloc: Global, style: &Style) -> Result<Vec<ElemChildren>, Error
     let mut contents = Vec::new(alloc);
     for texts in &TEXTS {
         let mut content = content(alloc, *texts)?;
-        finish::finish(alloc, style, &mut content)?;
+        finish(alloc, style, &mut content)?;
         contents.push(content)?;
     }
     Ok(contents)

@@ -1,0 +1,241 @@
+//! The examples of `csl_uses`, called one after another: `tools/works/uses.stdout` has what they
+//! make.
+
+mod twelve;
+mod unfinished;
+
+use crate::error::WorkError;
+use csl::literature::Entry;
+use csl::style::{Layout, Style};
+use csl::{BufWriteFormat, EntryLike, Error, Snapshot};
+use csl_uses::book::{book_label, the_c_book};
+use csl_uses::cite::{bibliography_line, cite, house_style, page_cite, the_compilers_book};
+use csl_uses::film::{Film, metropolis, title_of};
+use csl_uses::fold::fold;
+use csl_uses::in_text::{bare_style, cite_in_text, sorted_cites};
+use csl_uses::links::{with_links_to, with_web_links};
+use csl_uses::list::{annotate_first, count_new, lines, rename_first};
+use csl_uses::missing::missing_word;
+use csl_uses::namesakes::{book_by_miller, cites_apart, short_style};
+use csl_uses::page::{line_with_links_to, number_style, page, web_pages};
+use csl_uses::pair::{pair_of, the_novel, title_style};
+use csl_uses::whole_list::whole_list;
+use std::alloc::Global;
+use std::collections::HashMap;
+
+/// Writes the label of the book and both titles.
+fn show_texts(out: &mut String, alloc: Global, book: &Entry, film: &Film) -> Result<(), WorkError> {
+    let label = book_label(alloc, book)?;
+    let titles = (title_of(alloc, book)?, title_of(alloc, film)?);
+    writeln!(out, "label: {label}")?;
+    writeln!(out, "titles: {}, {}", titles.0, titles.1)?;
+    Ok(())
+}
+
+/// Writes the cite of an entry, and its line in the bibliography.
+fn show_cites<T: EntryLike>(
+    out: &mut String,
+    alloc: Global,
+    style: &Style,
+    entry: &T,
+) -> Result<(), WorkError> {
+    writeln!(out, "cite: {}", cite(alloc, style, entry)?)?;
+    if let Some(line) = bibliography_line(alloc, style, entry)? {
+        let html = line.to_text(alloc, BufWriteFormat::Html)?;
+        writeln!(out, "bibliography: {line}")?;
+        writeln!(out, "as HTML: {html}")?;
+    }
+    Ok(())
+}
+
+/// Writes the word that the style lacks, and the cites of the book, of a page of it, of the film,
+/// and of a book of three authors. CSL's English has no word for a locator that is a number.
+fn show_styled(
+    out: &mut String,
+    alloc: Global,
+    style: &Style,
+    book: &Entry,
+    film: &Film,
+) -> Result<(), WorkError> {
+    let lacking = missing_word(style).unwrap_or("none");
+    writeln!(out, "missing word: {lacking}")?;
+    show_cites(out, alloc, style, book)?;
+    let of_page = page_cite(alloc, style, book, "5")?;
+    writeln!(out, "cite of a page: {of_page}")?;
+    show_cites(out, alloc, style, film)?;
+    show_cites(out, alloc, style, &the_compilers_book(alloc)?)
+}
+
+/// Three books, not in the order of their names.
+fn three_books(alloc: Global) -> Result<Vec<Entry>, Error> {
+    let book = the_c_book(alloc)?;
+    let compilers = the_compilers_book(alloc)?;
+    let novel = book_by_miller(alloc, "Anna")?;
+    Ok(vec![in alloc; book, compilers, novel]?)
+}
+
+/// Writes the cites of three books in the running text, sorted by names and years.
+fn show_in_text(out: &mut String, alloc: Global) -> Result<(), WorkError> {
+    let style = bare_style(alloc)?;
+    let books = three_books(alloc)?;
+    for text in &sorted_cites(alloc, &style, books.as_slice())? {
+        writeln!(out, "in the text: {text}")?;
+    }
+    let book = the_c_book(alloc)?;
+    writeln!(
+        out,
+        "one in the text: {}",
+        cite_in_text(alloc, &style, &book)?
+    )?;
+    Ok(())
+}
+
+/// Writes cites of namesakes: the first two differ by an initial, the others by the given name.
+fn show_namesakes(out: &mut String, alloc: Global) -> Result<(), WorkError> {
+    let style = short_style(alloc)?;
+    let anna = book_by_miller(alloc, "Anna")?;
+    for given_name in ["Berta", "Alma"] {
+        let other = book_by_miller(alloc, given_name)?;
+        let (one, other) = cites_apart(alloc, &style, &anna, &other)?;
+        writeln!(out, "told apart: {} {}", one.text, other.text)?;
+    }
+    Ok(())
+}
+
+/// Writes a list of works with the lines kept so far, and how many lines were rendered.
+fn show_lines(
+    out: &mut String,
+    alloc: Global,
+    style: &Style,
+    works: &[Entry],
+    kept: &mut HashMap<Snapshot, String>,
+) -> Result<(), WorkError> {
+    let list = lines(alloc, style, works, kept)?;
+    for line in &list {
+        writeln!(out, "line: {}", line.html)?;
+    }
+    writeln!(out, "lines rendered: {}", count_new(&list))?;
+    Ok(())
+}
+
+/// Writes the list of three books, then with another title of the first, then with a note on it.
+fn show_list(out: &mut String, alloc: Global, style: &Style) -> Result<(), WorkError> {
+    let mut books = three_books(alloc)?;
+    let mut kept = HashMap::new(alloc);
+    show_lines(out, alloc, style, &books, &mut kept)?;
+    rename_first(alloc, &mut books, "The C Language")?;
+    show_lines(out, alloc, style, &books, &mut kept)?;
+    annotate_first(alloc, &mut books, "Second edition: 1988.")?;
+    show_lines(out, alloc, style, &books, &mut kept)
+}
+
+/// Writes the cite and the line of each of these works, in the order of a key.
+fn show_listed(
+    out: &mut String,
+    alloc: Global,
+    style: &Style,
+    key: &Layout,
+    works: &[Entry],
+) -> Result<(), WorkError> {
+    let mut list = whole_list(alloc, style, key, works)?;
+    for listed in list.iter_mut() {
+        let line = listed.line(alloc, style)?;
+        writeln!(out, "{}: {line}", listed.cite)?;
+    }
+    Ok(())
+}
+
+/// Three books of one year, two of them by one of two Millers.
+fn books_by_millers(alloc: Global) -> Result<Vec<Entry>, Error> {
+    let berta = book_by_miller(alloc, "Berta")?;
+    let anna = book_by_miller(alloc, "Anna")?;
+    let again = book_by_miller(alloc, "Anna")?;
+    Ok(vec![in alloc; berta, anna, again]?)
+}
+
+/// Writes two whole lists.
+fn show_whole_lists(out: &mut String, alloc: Global) -> Result<(), WorkError> {
+    let style = twelve::author_date_style(alloc)?;
+    let key = twelve::sort_key(alloc)?;
+    show_listed(out, alloc, &style, &key, &twelve::twelve_works(alloc)?)?;
+    show_listed(out, alloc, &style, &key, &books_by_millers(alloc)?)
+}
+
+/// Writes names in the order of their folds.
+fn show_folds(out: &mut String, alloc: Global) -> Result<(), WorkError> {
+    for name in ["Ærø", "Çelik", "Łukasz", "Öhm", "Olsen", "Straße"] {
+        writeln!(out, "{name}: {}", fold(alloc, name)?)?;
+    }
+    Ok(())
+}
+
+/// Writes contents, finished by the rules of a style.
+fn show_finished(out: &mut String, alloc: Global, style: &Style) -> Result<(), WorkError> {
+    for content in &unfinished::finished(alloc, style)? {
+        writeln!(out, "finished: {content}")?;
+    }
+    Ok(())
+}
+
+/// Writes the cites of the film and the novel, and whether the two are alike for the style.
+fn show_likeness(
+    out: &mut String,
+    alloc: Global,
+    style: &Style,
+    film: &Film,
+) -> Result<(), WorkError> {
+    let pair = pair_of(alloc, style, film, &the_novel(alloc)?)?;
+    let answer = if pair.alike { "alike" } else { "not alike" };
+    let (left, right) = (pair.left.content, pair.right.content);
+    writeln!(out, "{left} and {right}: {answer}")?;
+    Ok(())
+}
+
+/// Writes a content with its links to web addresses, and with those to another host alone.
+fn show_kept_links(out: &mut String, alloc: Global) -> Result<(), WorkError> {
+    let content = with_web_links(alloc, unfinished::with_address(alloc)?)?;
+    let html = content.to_text(alloc, BufWriteFormat::Html)?;
+    writeln!(out, "links to the web: {html}")?;
+    let content = with_links_to(alloc, unfinished::with_address(alloc)?, &["www.w3.org"])?;
+    let html = content.to_text(alloc, BufWriteFormat::Html)?;
+    writeln!(out, "links to www.w3.org: {html}")?;
+    Ok(())
+}
+
+/// Writes the lines of the web pages, with links to one host alone.
+fn show_links(out: &mut String, alloc: Global) -> Result<(), WorkError> {
+    let style = number_style(alloc)?;
+    for (place, entry) in web_pages(alloc)?.iter().enumerate() {
+        let line = line_with_links_to(alloc, &style, entry, place, &["www.w3.org"])?;
+        writeln!(out, "links to www.w3.org: {line}")?;
+    }
+    Ok(())
+}
+
+/// The web page.
+pub fn html(alloc: Global) -> Result<String, WorkError> {
+    Ok(page(alloc, &number_style(alloc)?, &web_pages(alloc)?)?)
+}
+
+/// What all examples make.
+pub fn text(alloc: Global) -> Result<String, WorkError> {
+    let mut text = String::new(alloc);
+    let out = &mut text;
+    let (book, film) = (the_c_book(alloc)?, metropolis(alloc)?);
+    let style = house_style(alloc)?;
+    show_texts(out, alloc, &book, &film)?;
+    show_styled(out, alloc, &style, &book, &film)?;
+    show_in_text(out, alloc)?;
+    show_namesakes(out, alloc)?;
+    show_list(out, alloc, &style)?;
+    show_whole_lists(out, alloc)?;
+    show_folds(out, alloc)?;
+    show_finished(out, alloc, &style)?;
+    show_finished(out, alloc, &unfinished::outside_style(alloc)?)?;
+    show_likeness(out, alloc, &title_style(alloc)?, &film)?;
+    show_likeness(out, alloc, &style, &film)?;
+    show_kept_links(out, alloc)?;
+    show_links(out, alloc)?;
+    out.push_str(html(alloc)?.as_str())?;
+    Ok(text)
+}
