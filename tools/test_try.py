@@ -1,5 +1,6 @@
 """The rows of tools/test_style about tools/try."""
 import collections
+import functools
 import json
 import os
 import re
@@ -9,8 +10,9 @@ import subprocess
 from typing import Any
 
 from csl_source import library
-from csl_source.document import Refused
+from csl_source.document import LARGE, Refused
 from csl_source.items import items as read_items
+from csl_source.page import rules
 from kit import TOP
 from programs import Program
 
@@ -98,6 +100,45 @@ FILES = [
     (b"[" * 100_000, ":1: no JSON: it is nested too deep"),
     (b"\n\xff", ":2: no UTF-8"),
     (b"title: T", ":1: no JSON: Expecting value"),
+    (b'{"config": {"items": [7]}}', ':1: no list of items, as [{"id": "a", "type": "book"}]'),
+    (b'{"items": 7}', ':1: no list of items, as [{"id": "a", "type": "book"}]'),
+    (b'[{"id": 1, "type": "book",\n"title": 1e999}]', ":2: 1: `title`: the number is too large"),
+    (b'[{"id": 1, "type": "book",\n"issued": {"raw": -1e999}}]',
+     ":2: 1: `issued`: the number is too large"),
+]
+# Objects that have the list of one item. Only a member of the object itself counts.
+OBJECTS = [
+    {"items": [BOOK]},
+    {"config": {"items": [{}], "references": [{}]}, "items": [BOOK]},
+    {"\"items\": [": "\"items\": [7]", "references": [BOOK], "items": {}},
+    {"references": [7], "items": [BOOK], "a": {}},
+]
+# A work whose texts turn the direction of writing, end the isolates of their elements, and have
+# markup, and the body of its page.
+TURNS = "\u202a\u202b\u202c\u202d\u202e\u2066\u2067\u2068\u2069"
+HOSTILE = {"id": "h\u2069<", "type": "webpage", "title": "A \u2069\u202e evil <script> \u05d0",
+           "author": [{"family": "\u202bOde"}], "publisher": f"P{TURNS}",
+           "URL": f"https://a.org/{TURNS}b", "issued": {"date-parts": [[2014]]}}
+HOSTILE_BODY = """<h1>Numbers in brackets</h1>
+<h2>Cites</h2>
+<p><b>h&lt;</b>: [1]</p>
+<h2>References</h2>
+<div class="entry columns"><div>[1]</div><div>Ode, “A  evil &lt;script&gt; \u05d0”, P, 2014, \
+<a href="https://a.org/b">https://a.org/b</a>.</div></div>
+"""
+# Names of variables, each a megabyte long.
+LONG_NAMES = ["x" * 1_000_000 + str(it) for it in range(10)]
+# Styles in rows that cost the most, and what is told of them.
+CHAIN = " ".join(f"(macro name=m{it} (text macro=m{it + 1}))" for it in range(1_800))
+DEEP, WIDE = "lists are more than 200 levels deep", "a list has more than 100 attributes"
+COSTLY = [
+    (f"{CHAIN} (citation (text macro=m0))", "the layout is too large: citation"),
+    (f"{CHAIN} {CHAIN}", f"as rows it has {LARGE}"),
+    (f"(citation '{'a' * 1_000_000}')", "more than 1 MB: leave only the line `base`"),
+    (f"(citation {'(group ' * 199}title{')' * 200}", "the layout is too large: citation"),
+    (f"(citation {'(group ' * 200}title{')' * 201}", DEEP),
+    (f"(citation {'(group ' * 9_000}", DEEP),
+    (f"(citation {' '.join(f'a{it}=' for it in range(9_000))})", WIDE),
 ]
 # Words that are wrong, and what is told of them.
 WORDS = [
@@ -182,8 +223,9 @@ class TrialTests:
         path = self.file("items.json", json.dumps([BOOK])[:-1] + ", {]")
         told = [f"{path}:1: no JSON: Expecting property name enclosed in double quotes"]
         self.row("a fault in the second item", self.faults(style, path), (1, OF_BOOK, told))
-        path = self.file("items.json", "\ufeff" + json.dumps({"items": [BOOK]}))
-        self.row("a list in an object", self.faults(style, path), (0, OF_BOOK, []))
+        for object in OBJECTS:
+            path = self.file("items.json", "\ufeff" + json.dumps(object, indent=1))
+            self.row(f"a list in {object}", self.faults(style, path), (0, OF_BOOK, []))
         path = self.file("items.json", b" " * 33_000_000)
         large = "more than 32 MB: take fewer items"
         for it, why in (path, large), ("/dev/zero", large), (f"{path}.no", "No such file or directory"), \
@@ -196,9 +238,9 @@ class TrialTests:
         path = self.file("wrong.rows", "base (citation (text variabel=title))\n")
         self.row("rows with a fault", self.faults(path), (1, "", [f"{path}: no such attribute here: variabel"]))
 
-    def faults(self, *words: str) -> tuple[int, str, list[str]]:
+    def faults(self, *words: str, **how: Any) -> tuple[int, str, list[str]]:
         """What the tool prints, and what it tells beside what is left out."""
-        status, text, faults = self.tried(*words)
+        status, text, faults = self.tried(*words, **how)
         left_out = re.compile(r": \d+ places? \(|`author` is missing")
         return status, text.split("The first")[0], [it for it in faults if not left_out.search(it)]
 
@@ -261,6 +303,16 @@ class TrialTests:
             told = self.faults(f"{STYLES}/bracketed.csl", "--html", it)
             self.row(f"the page {it}", (told[0], told[2]), (1, [f"{it}: {why}"]))
 
+    def test_hostile_page(self) -> None:
+        """The page of a work that turns the direction of writing, with the rules of page.rt."""
+        file = f"{self.room}/list.html"
+        path = self.file("items.json", json.dumps([HOSTILE]))
+        self.tried(f"{STYLES}/bracketed.csl", path, "--html", file)
+        with open(file, encoding="utf-8") as it:
+            head, _, body = it.read().partition("<body>\n")
+        self.row("a hostile page", body, f"{HOSTILE_BODY}</body>\n</html>\n")
+        self.row("the rules of page.rt", ["overflow: clip" in rules(), rules() in head], [True, True])
+
     def test_hostile_items(self) -> None:
         """What has no shape in an item or in a style is written by its number, and no line is forged."""
         hostile = "a\x1b[31m\u202e\nb.json:1: forged"
@@ -285,6 +337,26 @@ class TrialTests:
         macros = " ".join(f"(macro name=m{place} {it})" for place, it in enumerate(twice))
         path = self.file("large.rows", f"base {macros} (macro name=m40 title) (citation (text macro=m0))\n")
         self.row("a large layout", self.faults(path), (1, "", [f"{path}: the layout is too large: citation"]))
+
+    def test_hostile_sizes(self) -> None:
+        """Files that cost the most, each of which may cost five seconds of a core."""
+        style, path = f"{STYLES}/author_year.csl", f"{self.room}/hostile.json"
+        title = "\"'" + "#" * 200_000
+        self.file("hostile.json", json.dumps([{**BOOK, "title": title}]))
+        wanted = f"b\n  (Ode, 2014)\n  Ode (2014). {title}.\n"
+        self.row("a text of marks", self.cheap(style, path), (0, wanted, []))
+        self.file("hostile.json", json.dumps([{**BOOK, **dict.fromkeys(LONG_NAMES, 1)}], indent=0))
+        told = [f"{path}:{line}: b: `{'x' * 60}..`: the variable is unknown"
+                for line in range(18, 28)]
+        self.row("long names", self.cheap(style, path), (1, "", told))
+        for base, why in COSTLY:
+            path = self.file("hostile.rows", f"base {base}\n")
+            self.row(f"costly rows: {base[-99:]}", self.cheap(path), (1, "", [f"{path}: {why}"]))
+
+    def cheap(self, *words: str) -> tuple[int, str, list[str]]:
+        """What `faults` gives of a call that may cost five seconds of a core."""
+        limit = functools.partial(resource.setrlimit, resource.RLIMIT_CPU, (5, 5))
+        return self.faults(*words, preexec_fn=limit)
 
     def test_no_kit(self) -> None:
         """Without the kit, and without a program of an earlier call, there is one line."""
@@ -326,7 +398,9 @@ class TrialTests:
         self.test_locales()
         self.test_sorted()
         self.test_page()
+        self.test_hostile_page()
         self.test_hostile_items()
+        self.test_hostile_sizes()
         self.test_missing()
         self.test_no_kit()
         self.test_kept_at_once()

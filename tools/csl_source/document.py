@@ -6,8 +6,12 @@ from xml.parsers import expat
 
 CS = "{http://purl.org/net/xbiblio/csl}"
 LANGUAGE = "{http://www.w3.org/XML/1998/namespace}lang"
-# Published styles have 20 levels.
-DEEPEST = 100
+# The most levels of a file, its most bytes, and the most bytes of a text in it. Published styles
+# have 20 levels, 70,453 bytes, and texts of 74 bytes.
+DEEPEST, MOST_BYTES, MOST_OF_TEXT = 100, 71_000, 200
+LARGE = "more than 71 KB: published files have less"
+# The elements of which the text prints.
+TERMS = ("term", "single", "multiple")
 
 
 class Refused(Exception):
@@ -56,6 +60,7 @@ class Reader:
         # (in pieces, where it is long)
         self.parser.CharacterDataHandler = self.texts.append
         self.parser.StartDoctypeDeclHandler = self.refuse_document_type
+        self.parser.StartNamespaceDeclHandler = self.refuse_long_namespace
 
     def refuse_document_type(self, *_: object) -> None:
         """Refuses the file at a document type."""
@@ -64,6 +69,24 @@ class Reader:
     def place(self) -> str:
         """Where the reader is: the path and the line."""
         return f"{self.path}:{self.parser.CurrentLineNumber}"
+
+    def refuse_long(self, place: str, name: str, text: str) -> None:
+        """Refuses a text at this place that is too long."""
+        if len(text.encode()) > MOST_OF_TEXT:
+            raise Refused(f"{place}: `{name}` has more than {MOST_OF_TEXT} bytes")
+
+    def refuse_long_namespace(self, _: str | None, text: str) -> None:
+        """Refuses a namespace that is too long: each name of an element holds it."""
+        self.refuse_long(self.place(), "xmlns", text or "")
+
+    def refuse_long_attributes(self, node: Node) -> None:
+        """Refuses an attribute that is too long. A list of kinds may be longer, and so may what
+        says where the style comes from."""
+        if self.open[1:] and self.open[1].name == "info":
+            return
+        for name, text in node.attrib.items():
+            if name != "type":
+                self.refuse_long(node.place, name, text)
 
     def start(self, name: str, attributes: dict[str, str]) -> None:
         """Begins an element, inside of the open one."""
@@ -75,6 +98,7 @@ class Reader:
         node.place = self.place()
         if len(self.open) == DEEPEST:
             node.refuse(f"the elements are nested more than {DEEPEST} levels deep")
+        self.refuse_long_attributes(node)
         self.end_text()
         if self.open:
             self.open[-1].append(node)
@@ -97,16 +121,28 @@ class Reader:
                 node[-1].tail = text
             else:
                 node.text = text
+                if node.name in TERMS:
+                    self.refuse_long(node.place, node.name, text)
+
+
+def content_of(path: str, most: int, why: str) -> bytes:
+    """The bytes of a file. `why` refuses one that has more than `most`."""
+    try:
+        with open(path, "rb") as file:
+            content = file.read(most + 1)
+    except OSError as error:
+        raise Refused(f"{path}: {error.strerror}") from None
+    if len(content) > most:
+        raise Refused(f"{path}: {why}")
+    return content
 
 
 def document(path: str, name: str) -> Node:
     """The root of a CSL file, an element of this name."""
-    reader = Reader(path)
+    content, reader = content_of(path, MOST_BYTES, LARGE), Reader(path)
     try:
-        with open(path, "rb") as file:
-            reader.parser.ParseFile(file)
-    except OSError as why:
-        raise Refused(f"{path}: {why.strerror}") from None
+        # (in one piece: expat begins a token again with each further piece)
+        reader.parser.Parse(content, True)
     except expat.ExpatError as why:
         raise Refused(f"{path}:{why.lineno}: no XML: {expat.ErrorString(why.code)}") from None
     except (ValueError, LookupError) as why:

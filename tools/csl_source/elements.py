@@ -283,7 +283,10 @@ class Elements:
         for child in node:
             if child.name != "name-part":
                 child.refuse(f"`{child.name}` has no place in `name`")
-            steps.append(self.name_part(child))
+            step = self.name_part(child)
+            if any(local.base == step[0].base for local, _ in steps):
+                child.refuse(f"the part `{step[0].base}` of `name` is there twice")
+            steps.append(step)
         parts = [local for local, _ in steps]
         self.left["affixes of `name`"] += given.affixes() is not None
         options = given.name_options(form="form", delimiter="delimiter")

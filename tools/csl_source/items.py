@@ -4,11 +4,12 @@ import dataclasses
 import difflib
 import functools
 import json
+import math
 import re
 from typing import Any, Iterable, Iterator
 
 from csl_source import library
-from csl_source.document import Refused
+from csl_source.document import Refused, content_of
 from csl_source.notation import CONTROL, Form, attribute, in_quotes
 
 # The most bytes of a file, the most persons of a variable, the most faults that have a hint and a line of
@@ -77,6 +78,8 @@ def text_of(value: Any) -> str:
     """A text, or a number as a text."""
     if isinstance(value, bool) or not isinstance(value, (str, int, float)):
         raise Wrong("a text goes here")
+    if isinstance(value, float) and math.isinf(value):
+        raise Wrong("the number is too large")
     return cleaned(str(value))
 
 
@@ -262,13 +265,7 @@ class File:
 
     def __init__(self, path: str):
         self.path = path
-        try:
-            with open(path, "rb") as it:
-                content = it.read(MOST_BYTES + 1)
-        except OSError as why:
-            raise Refused(f"{path}: {why.strerror}") from None
-        if len(content) > MOST_BYTES:
-            raise Refused(f"{path}: more than {MOST_BYTES // 1_000_000} MB: take fewer items")
+        content = content_of(path, MOST_BYTES, "more than 32 MB: take fewer items")
         try:
             self.text = content.decode("utf-8-sig")
         except UnicodeDecodeError as why:
@@ -284,8 +281,13 @@ class File:
 
     def line_of(self, name: str, at: int, end: int) -> int:
         """The line of a variable of the item between two places, or else that of the item."""
-        found = re.compile(rf'"{re.escape(name)}"\s*:').search(self.text, at, end)
-        return self.line + (self.text.count("\n", at, found.start()) if found else 0)
+        found = self.text.find(f'"{name}"', at, end)
+        while found >= 0:
+            after = self.skip(found + len(name) + 2)
+            if self.text[after:after + 1] == ":":
+                return self.line + self.text.count("\n", at, found)
+            found = self.text.find(f'"{name}"', after, end)
+        return self.line
 
     def skip(self, at: int) -> int:
         """The place of the next character that is no white space."""
@@ -301,16 +303,28 @@ class File:
             reason = "it is nested too deep" if isinstance(why, RecursionError) else str(why)
             raise Refused(f"{self.place(at)}: no JSON: {reason}") from None
 
+    def members(self, at: int) -> Iterator[tuple[str, int]]:
+        """The members of the object at a place, which is whole: each name, with the place of the
+        value."""
+        at = self.skip(at + 1)
+        while self.text[at:at + 1] != "}":
+            name, at = self.value(at)
+            at = self.skip(self.skip(at) + 1)
+            yield name, at
+            at = self.skip(self.value(at)[1])
+            if self.text[at:at + 1] == ",":
+                at = self.skip(at + 1)
+
     def list_at(self) -> int:
         """The place of the list of items: the file, or the list `items` or `references` of an object."""
         at = self.skip(0)
         if self.text[at:at + 1] != "{":
             return at
-        whole, _ = self.value(at)
+        self.value(at)
+        members = dict(self.members(at))
         for name in ("items", "references"):
-            found = re.search(rf'"{name}"\s*:\s*(?=\[)', self.text)
-            if isinstance(whole.get(name), list) and found:
-                return found.end()
+            if name in members and self.text[members[name]] == "[":
+                return members[name]
         raise Refused(f"{self.place(at)}: no list of items, as [{{\"id\": \"a\", \"type\": \"book\"}}]")
 
     def values(self) -> Iterator[tuple[int, int, Any]]:

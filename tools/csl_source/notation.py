@@ -11,9 +11,7 @@ def in_quotes(text: str) -> str:
     for quote in "\"'":
         if quote not in text:
             return f"{quote}{text}{quote}"
-    hashes = "#"
-    while f'"{hashes}' in text:
-        hashes += "#"
+    hashes = "#" * (1 + max(map(len, re.findall('"(#*)', text))))
     return f'{hashes}"{text}"{hashes}'
 
 

@@ -1,13 +1,17 @@
-"""A reference list as a whole web page, as `page.rt` of csl_uses has it: texts are escaped, and only web
-addresses are links."""
+"""A reference list as a whole web page, with the looks of csl_uses' `page.rt`: texts are escaped,
+only web addresses are links, and there are no direction controls."""
 import dataclasses
+import functools
+import glob
 import html
 import re
 from typing import Mapping
 
-# A line in columns is a flex box, which ignores floats. Long addresses wrap. An author, a title and an
-# address that have an element are each isolated, so a character in one of them that turns the direction of
-# writing turns nothing else.
+from csl_source.library import TOP
+
+# The rules of page.rt come first. A line in columns is a flex box, whose first field keeps its
+# width. An author, a title and an address that have an element are each isolated, so a letter in
+# one of them that is written from right to left turns nothing else.
 PAGE = """<!doctype html>
 <html lang="{language}">
 <head>
@@ -15,11 +19,11 @@ PAGE = """<!doctype html>
 <title>{title}</title>
 <style>
 body {{ max-width: 45em; margin: 2em auto; padding: 0 1em; line-height: 1.4; }}
-p {{ margin: 0.3em 0; }}
-.entry {{ margin: {spacing}em 0; line-height: {lines}; overflow-wrap: anywhere; }}
+p {{ margin: 0.3em 0; overflow-wrap: anywhere; }}
+{rules}.entry {{ margin: {spacing}em 0; line-height: {lines}; }}
 .entry.hanging {{ padding-left: 2em; text-indent: -2em; }}
 .entry.columns {{ display: flex; gap: 1em; }}
-.entry > div {{ min-width: 0; }}
+.entry.columns > div:first-child {{ flex: none; max-width: 50%; }}
 b, span, a {{ unicode-bidi: isolate; }}
 </style>
 </head>
@@ -28,6 +32,21 @@ b, span, a {{ unicode-bidi: isolate; }}
 {body}</body>
 </html>
 """
+
+# The characters that turn the direction of writing until another one ends that, and such ends. An
+# end also closes the isolate of an element.
+DIRECTION_CONTROLS = re.compile("[\u202a-\u202e\u2066-\u2069]")
+
+
+@functools.cache
+def rules() -> str:
+    """The rules of page.rt for the looks of a page."""
+    for path in glob.glob(f"{TOP}/crates/*/src/page.rt"):
+        with open(path, encoding="utf-8") as source:
+            found = re.search(r"<style>\n(.*?)</style>", source.read(), re.S)
+        if found:
+            return found[1]
+    raise SystemExit("tools/try: no page.rt has rules for the looks of a page")
 
 
 @dataclasses.dataclass
@@ -63,7 +82,8 @@ def page(title: str, language: str, looks: Mapping[str, str], works: list[Listed
         body += "<h2>References</h2>\n"
         is_hanging = looks.get("bibliography-hanging-indent") == "true"
         body += "".join(entry(it.line, is_hanging) for it in works if it.line)
-    return PAGE.format(
-        language=html.escape(language), title=html.escape(title), body=body,
+    text = PAGE.format(
+        language=html.escape(language), title=html.escape(title), body=body, rules=rules(),
         spacing=0.3 + 0.5 * number(looks.get("bibliography-entry-spacing", ""), 1),
         lines=1.4 * max(1, number(looks.get("bibliography-line-spacing", ""), 1)))
+    return DIRECTION_CONTROLS.sub("", text)

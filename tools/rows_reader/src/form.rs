@@ -1,9 +1,17 @@
 //! The forms of a line: words, texts in quotes, attributes `name=value`, and lists in parentheses.
 //! Quotes are double or single ones, or as in `#"a text"#`: the same number of `#` on both sides.
+//! Lists are in each other at most 200 levels deep: a CSL file of 100 levels takes no more, with a
+//! group around each node.
 
 use crate::fault::Fault;
 use crate::names::Named;
 use std::alloc::Global;
+
+/// How deep lists may be in each other.
+const LEVELS: usize = 200;
+
+/// The most attributes of a list.
+const ATTRIBUTES: usize = 100;
 
 /// A form.
 #[cycle(form)]
@@ -67,11 +75,18 @@ fn split_value<'t>(alloc: Global, text: &'t str) -> Result<(&'t str, &'t str), F
     }
 }
 
-/// The list whose word a text begins with, and the text after its end.
+/// The list whose word a text begins with, and the text after its end. It may have so many levels.
 #[cycle(read)]
-fn split_list<'t>(alloc: Global, text: &'t str) -> Result<(Form<'t>, &'t str), Fault> {
+fn split_list<'t>(
+    alloc: Global,
+    text: &'t str,
+    levels: usize,
+) -> Result<(Form<'t>, &'t str), Fault> {
+    let Some(inside) = levels.checked_sub(1) else {
+        return Err(Fault::Wrong("lists are more than 200 levels deep"));
+    };
     let (head, rest) = split_word(text);
-    let (forms, rest) = split_forms(alloc, rest)?;
+    let (forms, rest) = split_forms(alloc, rest, inside)?;
     match rest.strip_prefix(')') {
         Some(after) => Ok((Form::List(head, forms), after)),
         None => Err(Fault::Wrong("a ( is not closed")),
@@ -80,9 +95,13 @@ fn split_list<'t>(alloc: Global, text: &'t str) -> Result<(Form<'t>, &'t str), F
 
 /// The form that a text begins with, and the text after it.
 #[cycle(read)]
-fn split_form<'t>(alloc: Global, text: &'t str) -> Result<(Form<'t>, &'t str), Fault> {
+fn split_form<'t>(
+    alloc: Global,
+    text: &'t str,
+    levels: usize,
+) -> Result<(Form<'t>, &'t str), Fault> {
     if let Some(list) = text.strip_prefix('(') {
-        return split_list(alloc, list);
+        return split_list(alloc, list, levels);
     }
     if let Some((mark, rest)) = split_mark(text) {
         let (text, after) = split_quoted(alloc, mark, rest)?;
@@ -103,11 +122,15 @@ fn split_form<'t>(alloc: Global, text: &'t str) -> Result<(Form<'t>, &'t str), F
 
 /// The forms that a text begins with, and the rest: nothing, or the end of a list.
 #[cycle(read)]
-fn split_forms<'t>(alloc: Global, text: &'t str) -> Result<(Forms<'t>, &'t str), Fault> {
+fn split_forms<'t>(
+    alloc: Global,
+    text: &'t str,
+    levels: usize,
+) -> Result<(Forms<'t>, &'t str), Fault> {
     let mut items = Vec::new(alloc);
     let mut rest = text.trim_start_matches(' ');
     while !rest.is_empty() && !rest.starts_with(')') {
-        let (form, after) = split_form(alloc, rest)?;
+        let (form, after) = split_form(alloc, rest, levels)?;
         items.push(form)?;
         rest = after.trim_start_matches(' ');
     }
@@ -119,7 +142,7 @@ fn split_forms<'t>(alloc: Global, text: &'t str) -> Result<(Forms<'t>, &'t str),
 impl<'t> Forms<'t> {
     /// The forms of a text.
     pub fn read(alloc: Global, text: &'t str) -> Result<Forms<'t>, Fault> {
-        let (forms, rest) = split_forms(alloc, text)?;
+        let (forms, rest) = split_forms(alloc, text, LEVELS)?;
         if rest.is_empty() {
             Ok(forms)
         } else {
@@ -127,15 +150,18 @@ impl<'t> Forms<'t> {
         }
     }
 
-    /// Fails if an attribute is set twice.
+    /// Fails if an attribute is set twice, or if there are too many to compare.
     fn ensure_set_once(&self) -> Result<(), Fault> {
-        for (place, form) in self.items.iter().enumerate() {
+        let mut names: Vec<&str> = Vec::new(self.alloc);
+        for form in &self.items {
             if let Form::Attribute(name, _) = form {
-                for other in self.items.iter().skip(place + 1) {
-                    if matches!(other, Form::Attribute(again, _) if again == name) {
-                        return Err(self.fault("an attribute is set twice", *name));
-                    }
+                if names.iter().any(|it| *it == *name) {
+                    return Err(self.fault("an attribute is set twice", *name));
                 }
+                if names.len() == ATTRIBUTES {
+                    return Err(Fault::Wrong("a list has more than 100 attributes"));
+                }
+                names.push(*name)?;
             }
         }
         Ok(())
