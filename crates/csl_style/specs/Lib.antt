@@ -33,3 +33,4 @@ pub use Rattle.csl_elements.specs.Taxonomy
 pub use Rattle.csl_elements.specs.Term
 pub use Rattle.csl_elements.specs.NamesParts
 pub use Rattle.csl_elements.specs.NamedSet
+pub mod AllWithin

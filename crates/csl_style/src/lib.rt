@@ -5,6 +5,7 @@
 #![tactic(auto)]
 
 mod all_nodes;
+mod all_within;
 mod call_graph;
 mod components;
 mod cycles;

@@ -2,13 +2,15 @@
 //! 1.0.2, Macro; Choose; Localized Date Formats).
 
 ghost use Prim.Native.Nat.{min};
-ghost use Rattle.std.specs.Prelude.{◌≡◌, ◌+◌, ◌<◌, ◌≤◌, ◌⊎◌, length, option_map, IfSome, IfNone, IsTrue, IsFalse, if◌then◌else◌};
+ghost use Rattle.std.specs.Prelude.{◌≡◌, true, false, [], ◌+◌, ◌<◌, ◌≤◌, ◌⊎◌, length, option_map, IfSome, IfNone, IsTrue, IsFalse, if◌then◌else◌};
 ghost use Rattle.csl_elements.specs.Node.{expand, expand_nodes, expand_layout};
 ghost use Rattle.csl_elements.specs.View.{view_node, view_nodes, view_names, view_child, view_branch, view_choose, view_layout};
 ghost use Rattle.csl_style.specs.Expanded.{macro_env};
 ghost use Rattle.csl_style.specs.Depth.{node_depth, nodes_depth, child_depth, layout_depth};
 ghost use Rattle.csl_style.specs.Size.{counted, list_weight, localized_parts, tests_weight, weight, weights, child_weight, layout_size, rendered_size};
+ghost use Rattle.csl_style.specs.AllWithin.{AreKnownSizes, IsLayoutWithin};
 
+use crate::all_nodes::called_name;
 use crate::style::Style;
 use csl_elements::{
     Choose, ChooseBranch, DateForm, Layout, LayoutRenderingElement, Names, NamesChild, TextTarget,
@@ -70,15 +72,82 @@ fn room_after_branch(before: u64, after: u64, once: bool) -> u64
     if once { before } else { after }
 }
 
+/// What is known of the nodes of a macro: their size, how much of it one rendering goes through, and
+/// their depth.
+#[derive(Clone, Copy)]
+pub(crate) struct MacroSize {
+    pub(crate) all: u64,
+    pub(crate) rendered: u64,
+    pub(crate) depth: usize,
+}
+
+/// The size of a node that calls a macro, or how much of it one rendering goes through, and its depth.
+#[derive(Clone, Copy)]
+pub(crate) struct CallSize {
+    size: u64,
+    pub(crate) depth: usize,
+}
+
+/// What is known of the macro that a node calls. The node is one larger, and one deeper.
+fn known_macro(
+    style: &Style,
+    known: &[Option<MacroSize>],
+    element: &LayoutRenderingElement,
+) -> Option<MacroSize>
+    requires known { AreKnownSizes style.now known.now }
+    ensures all { IfSome result (λ found. weight false []
+        (expand (macro_env style.now) (view_node element.now)) ≡ found.all + 1) }
+    ensures rendered { IfSome result (λ found. weight true style.now.locales
+        (expand (macro_env style.now) (view_node element.now)) ≡ found.rendered + 1) }
+    ensures depth { IfSome result (λ found. node_depth
+        (expand (macro_env style.now) (view_node element.now)) ≡ found.depth + 1) }
+{
+    let name = called_name(element)?;
+    let i = style.macro_index(name)?;
+    if i < known.len() { known[i] } else { None }
+}
+
+/// The size of a node that calls a macro, if that of the macro is known.
+pub(crate) fn known_call<const ONCE: bool>(
+    style: &Style,
+    known: &[Option<MacroSize>],
+    element: &LayoutRenderingElement,
+) -> Option<CallSize>
+    requires known { AreKnownSizes style.now known.now }
+    ensures size { IfSome result (λ call. weight ONCE (counted ONCE style.now.locales)
+        (expand (macro_env style.now) (view_node element.now)) ≡ call.size) }
+    ensures depth { IfSome result (λ call. node_depth
+        (expand (macro_env style.now) (view_node element.now)) ≡ call.depth) }
+{
+    let found = known_macro(style, known, element)?;
+    let depth = found.depth.checked_add(1)?;
+    let inside = room_after_branch(found.rendered, found.all, ONCE);
+    let size = inside.checked_add(1)?;
+    Some(CallSize { size, depth })
+}
+
+/// The room that is left after a node of this size.
+fn room_left_by_call(call: CallSize, room: u64, most: usize) -> Option<u64>
+    ensures some { IfSome result (λ left. (left + call.size ≡ room) × (call.depth ≤ most)) }
+    ensures none { IfNone result ((room < call.size) ⊎ (most < call.depth)) }
+{
+    if most < call.depth {
+        return None;
+    }
+    room.checked_sub(call.size)
+}
+
 /// The room that is left after an element, or `None` if the element is larger than the room or
 /// deeper than `most`. If `ONCE`, only what one rendering goes through counts.
 #[cycle(size)]
 fn room_left_by<const ONCE: bool>(
     style: &Style,
+    known: &[Option<MacroSize>],
     element: &LayoutRenderingElement,
     room: u64,
     most: usize,
 ) -> Option<u64>
+    requires known { AreKnownSizes style.now known.now }
     ensures some { IfSome result (λ left. (left + weight ONCE (counted ONCE style.now.locales)
         (expand (macro_env style.now) (view_node element.now)) ≡ room)
         × (node_depth (expand (macro_env style.now) (view_node element.now)) ≤ most)) }
@@ -86,12 +155,16 @@ fn room_left_by<const ONCE: bool>(
         (expand (macro_env style.now) (view_node element.now)))
         ⊎ (most < node_depth (expand (macro_env style.now) (view_node element.now)))) }
 {
+    if let Some(call) = known_call::<ONCE>(style, known, element) {
+        return room_left_by_call(call, room, most);
+    }
     let inside = most.checked_sub(1)?;
     match element {
         LayoutRenderingElement::Text(text) => match &text.target {
             TextTarget::Macro { name } => match style.get_macro(name.as_str()) {
                 Some(found) => room_left_by_all::<ONCE>(
                     style,
+                    known,
                     &found.children,
                     room.checked_sub(1)?,
                     inside,
@@ -107,25 +180,27 @@ fn room_left_by<const ONCE: bool>(
             .checked_sub(date.date_part.len() as u64)?
             .checked_sub(localized_parts(style, date.form, ONCE)),
         LayoutRenderingElement::Names(names) => room_left_by_names::<ONCE>(
-            style, names, room, most,
+            style, known, names, room, most,
         ),
         LayoutRenderingElement::Choose(choose) => room_left_by_choose::<ONCE>(
-            style, choose, room, most,
+            style, known, choose, room, most,
         ),
         LayoutRenderingElement::Group(group) => {
-            room_left_by_all::<ONCE>(style, &group.children, room.checked_sub(1)?, inside)
+            room_left_by_all::<ONCE>(style, known, &group.children, room.checked_sub(1)?, inside)
         }
     }
 }
 
 /// The room that is left after a list of elements. Each counts one more than its own size.
 #[cycle(size)]
-fn room_left_by_all<const ONCE: bool>(
+pub(crate) fn room_left_by_all<const ONCE: bool>(
     style: &Style,
+    known: &[Option<MacroSize>],
     elements: &[LayoutRenderingElement],
     room: u64,
     most: usize,
 ) -> Option<u64>
+    requires known { AreKnownSizes style.now known.now }
     ensures some { IfSome result (λ left. (left
         + weights ONCE (counted ONCE style.now.locales)
         (expand_nodes (macro_env style.now) (view_nodes elements.now)) ≡ room)
@@ -136,7 +211,7 @@ fn room_left_by_all<const ONCE: bool>(
 {
     let mut left = room;
     for element in elements {
-        left = room_left_by::<ONCE>(style, element, left.checked_sub(1)?, most)?;
+        left = room_left_by::<ONCE>(style, known, element, left.checked_sub(1)?, most)?;
     }
     Some(left)
 }
@@ -145,10 +220,12 @@ fn room_left_by_all<const ONCE: bool>(
 #[cycle(size)]
 fn room_left_by_names<const ONCE: bool>(
     style: &Style,
+    known: &[Option<MacroSize>],
     names: &Names,
     room: u64,
     most: usize,
 ) -> Option<u64>
+    requires known { AreKnownSizes style.now known.now }
     ensures some { IfSome result (λ left. (left
         + weight ONCE (counted ONCE style.now.locales)
         (expand (macro_env style.now) (view_names names.now)) ≡ room)
@@ -162,7 +239,7 @@ fn room_left_by_names<const ONCE: bool>(
         .checked_sub(1)?
         .checked_sub(names.variable.len() as u64)?;
     for child in &names.children {
-        left = room_left_by_child::<ONCE>(style, child, left, inside)?;
+        left = room_left_by_child::<ONCE>(style, known, child, left, inside)?;
     }
     Some(left)
 }
@@ -172,10 +249,12 @@ fn room_left_by_names<const ONCE: bool>(
 #[cycle(size)]
 fn room_left_by_child<const ONCE: bool>(
     style: &Style,
+    known: &[Option<MacroSize>],
     child: &NamesChild,
     room: u64,
     most: usize,
 ) -> Option<u64>
+    requires known { AreKnownSizes style.now known.now }
     ensures some { IfSome result (λ left. (left
         + child_weight ONCE (counted ONCE style.now.locales) (macro_env style.now)
         (view_child child.now) ≡ room)
@@ -189,7 +268,13 @@ fn room_left_by_child<const ONCE: bool>(
         NamesChild::Name(name) => room.checked_sub(1)?.checked_sub(name.parts.len() as u64),
         NamesChild::EtAl(_) | NamesChild::Label(_) => room.checked_sub(1),
         NamesChild::Substitute(substitute) => {
-            room_left_by_all::<ONCE>(style, &substitute.children, room.checked_sub(1)?, most)
+            room_left_by_all::<ONCE>(
+                style,
+                known,
+                &substitute.children,
+                room.checked_sub(1)?,
+                most,
+            )
         }
     }
 }
@@ -199,10 +284,12 @@ fn room_left_by_child<const ONCE: bool>(
 #[cycle(size)]
 fn room_left_by_choose<const ONCE: bool>(
     style: &Style,
+    known: &[Option<MacroSize>],
     choose: &Choose,
     room: u64,
     most: usize,
 ) -> Option<u64>
+    requires known { AreKnownSizes style.now known.now }
     ensures some { IfSome result (λ left. (left
         + weight ONCE (counted ONCE style.now.locales)
         (expand (macro_env style.now) (view_choose choose.now)) ≡ room)
@@ -213,17 +300,23 @@ fn room_left_by_choose<const ONCE: bool>(
 {
     let inside = most.checked_sub(1)?;
     let left = room_left_by_tests(&choose.if_, room.checked_sub(1)?.checked_sub(1)?)?;
-    let mut least = room_left_by_all::<ONCE>(style, &choose.if_.children, left, inside)?;
+    let mut least = room_left_by_all::<ONCE>(style, known, &choose.if_.children, left, inside)?;
     let mut next = room_after_branch(left, least, ONCE);
     for branch in &choose.else_if {
         let left = room_left_by_tests(branch, next.checked_sub(1)?)?;
-        let after = room_left_by_all::<ONCE>(style, &branch.children, left, inside)?;
+        let after = room_left_by_all::<ONCE>(style, known, &branch.children, left, inside)?;
         next = room_after_branch(left, after, ONCE);
         least = smaller(least, after);
     }
     match &choose.otherwise {
         Some(otherwise) => {
-            let after = room_left_by_all::<ONCE>(style, otherwise, next.checked_sub(1)?, inside)?;
+            let after = room_left_by_all::<ONCE>(
+                style,
+                known,
+                otherwise,
+                next.checked_sub(1)?,
+                inside,
+            )?;
             Some(smaller(least, after))
         }
         None => Some(smaller(least, next)),
@@ -232,7 +325,14 @@ fn room_left_by_choose<const ONCE: bool>(
 
 /// The room that is left after a layout, which counts one, or `None` if the layout is larger than the
 /// room or deeper than `most`.
-fn room_left_by_layout(style: &Style, layout: &Layout, room: u64, most: usize) -> Option<u64>
+fn room_left_by_layout(
+    style: &Style,
+    known: &[Option<MacroSize>],
+    layout: &Layout,
+    room: u64,
+    most: usize,
+) -> Option<u64>
+    requires known { AreKnownSizes style.now known.now }
     ensures some { IfSome result (λ left. (left
         + layout_size (expand_layout (macro_env style.now) (view_layout layout.now)) ≡ room)
         × (layout_depth (expand_layout (macro_env style.now) (view_layout layout.now)) ≤ most)) }
@@ -242,7 +342,35 @@ fn room_left_by_layout(style: &Style, layout: &Layout, room: u64, most: usize) -
 {
     let left = room.checked_sub(1)?;
     let inside = most.checked_sub(1)?;
-    room_left_by_all::<false>(style, &layout.elements, left, inside)
+    room_left_by_all::<false>(style, known, &layout.elements, left, inside)
+}
+
+/// Whether a layout is within limits of what one rendering goes through, of its size and of its depth.
+pub(crate) fn is_layout_within(
+    style: &Style,
+    known: &[Option<MacroSize>],
+    layout: &Layout,
+    rendered: u64,
+    size: u64,
+    depth: usize,
+) -> bool
+    requires known { AreKnownSizes style.now known.now }
+    ensures within { IsTrue result → IsLayoutWithin style.now rendered size depth
+        (view_layout layout.now) }
+    ensures above { IsFalse result → (rendered < rendered_size style.now.locales
+        (expand_layout (macro_env style.now) (view_layout layout.now)))
+        ⊎ ((size < layout_size (expand_layout (macro_env style.now) (view_layout layout.now)))
+        ⊎ (depth < layout_depth (expand_layout (macro_env style.now) (view_layout layout.now)))) }
+{
+    if room_left_by_layout(style, known, layout, size, depth).is_none() {
+        return false;
+    }
+    match rendered.checked_sub(1) {
+        Some(left) => {
+            room_left_by_all::<true>(style, known, &layout.elements, left, depth).is_some()
+        }
+        None => false,
+    }
 }
 
 impl Style {
@@ -267,7 +395,7 @@ impl Style {
         ensures none { IfNone result (most
             < layout_size (expand_layout (macro_env self.now) (view_layout layout.now))) }
     {
-        let left = room_left_by_layout(self, layout, most, usize::MAX)?;
+        let left = room_left_by_layout(self, &[], layout, most, usize::MAX)?;
         Some(most - left)
     }
 
@@ -285,7 +413,7 @@ impl Style {
             → (size < layout_size (expand_layout (macro_env self.now) (view_layout layout.now)))
             ⊎ (depth < layout_depth (expand_layout (macro_env self.now) (view_layout layout.now))) }
     {
-        room_left_by_layout(self, layout, size, depth).is_some()
+        room_left_by_layout(self, &[], layout, size, depth).is_some()
     }
 
     /// Whether a layout with all macros expanded has at most the size `all` and the depth `depth`, as
@@ -311,12 +439,6 @@ impl Style {
             ⊎ ((all < layout_size (expand_layout (macro_env self.now) (view_layout layout.now)))
             ⊎ (depth < layout_depth (expand_layout (macro_env self.now) (view_layout layout.now)))) }
     {
-        if room_left_by_layout(self, layout, all, depth).is_none() {
-            return false;
-        }
-        match size.checked_sub(1) {
-            Some(left) => room_left_by_all::<true>(self, &layout.elements, left, depth).is_some(),
-            None => false,
-        }
+        is_layout_within(self, &[], layout, size, all, depth)
     }
 }

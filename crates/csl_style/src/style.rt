@@ -1,11 +1,13 @@
 //! A style: its settings, macros, layouts and locales (CSL 1.0.2, Style Structure; Macro). No macro
 //! of a style leads back to itself, directly or through other macros.
 
-ghost use Rattle.std.specs.Prelude.{◌≡◌, false, IfOk, OnOk, IfErr, map, find, option_map, option_copied};
+ghost use Rattle.std.specs.Prelude.{◌≡◌, ◌<◌, ℕ, List, length, Some, IfSome, false, IfOk, OnOk, IfErr, map, find, option_map, option_copied};
 ghost use Rattle.csl_elements.specs.Node.{expand_nodes};
 ghost use Rattle.csl_elements.specs.View.{definitions, is_named, view_nodes};
 ghost use Rattle.csl_style.specs.Expansion.{macro_body, macro_expansion, macro_index, IsAcyclic};
-ghost use Rattle.csl_style.specs.CallGraph.{ArePlacesByName};
+ghost use Rattle.csl_style.specs.CallGraph.{ArePlacesByName, children_at};
+ghost use Rattle.csl_style.specs.Expanded.{macro_env};
+ghost use Rattle.csl_style.specs.AllWithin.{NameMeans};
 ghost use Rattle.csl_style.specs.Style.{HasNoCycle, style_of, layout_of, is_chicago, IsRefusal};
 ghost use Rattle.csl_elements.specs.Locale.{terms_of, ordinals_of};
 ghost use Rattle.csl_elements.specs.Term.{term_text, term_gender};
@@ -42,6 +44,8 @@ pub struct Style {
     locales: Vec<Locale>,
     /// The index in `macros` of the first macro of each name.
     places: Places,
+    /// The indices of the macros, each after the macros that it calls. No contract says so.
+    callees_first: Vec<usize>,
     /// The places of the terms in `locales`.
     term_places: TermPlaces,
     /// The ordinals that lookups in `locales` find, by their slots.
@@ -196,6 +200,7 @@ impl Style {
             bibliography,
             locales,
             places,
+            callees_first,
             term_places,
             ordinal_table,
             implicit,
@@ -262,9 +267,21 @@ impl Style {
 
     /// The index in [`Style::macros`] of the first macro of a name (CSL 1.0.2, Macro).
     pub fn macro_index(&self, name: &str) -> Option<usize>
-        ensures { result ≡ macro_index name.now (definitions self.now.macros) }
+        ensures index { result ≡ macro_index name.now (definitions self.now.macros) }
+        ensures within { IfSome result (λ i. i < length self.now.macros) }
+        ensures meaning { IfSome result (λ i. macro_env self.now name.now
+            ≡ Some (expand_nodes (macro_env self.now)
+            (children_at (definitions self.now.macros) i))) }
     {
         self.places.get(name)
+    }
+
+    /// The places of the macros, in an order in which each comes after those that it calls, though no
+    /// contract says so. A name stands for the nodes of its first macro.
+    pub(crate) fn callees_first(&self) -> &[usize]
+        ensures { (name : List ℕ) → NameMeans self.now name }
+    {
+        &self.callees_first
     }
 
     /// The first macro of a name (CSL 1.0.2, Macro).

@@ -25,7 +25,7 @@ fn is_year_suffix(variable: Variable) -> bool
 }
 
 /// The nodes of the macro at a place.
-fn nodes_at(macros: &[CslMacro], i: usize) -> &Vec<LayoutRenderingElement>
+pub(crate) fn nodes_at(macros: &[CslMacro], i: usize) -> &Vec<LayoutRenderingElement>
     requires { i < length macros.now }
     ensures { view_nodes result.now.items ≡ children_at (definitions macros.now) i }
 {
