@@ -102,7 +102,7 @@ def languages() -> dict[str, tuple[str, tuple[str, str]]]:
     """The languages that the library has a locale of, by their names in CSL: the call that returns
     it, and its options `punctuation-in-quote` and `limit-day-ordinals-to-day-1`."""
     found: dict[str, tuple[str, tuple[str, str]]] = {}
-    for path in sorted(glob.glob(f"{TOP}/crates/csl/src/words/*.rt")):
+    for path in sorted(glob.glob(f"{TOP}/crates/csl_languages/src/words/*.rt")):
         with open(path, encoding="utf-8") as source:
             text = source.read()
         name = re.search(r"CSL's own locale\s+(?://! )?`([\w-]+)`", text)

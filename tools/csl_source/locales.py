@@ -97,7 +97,8 @@ class BuiltIn(Node):
 def built_in(word: str) -> BuiltIn | None:
     """The library's locale of a language, named as in `en-US` or `en`."""
     known = {language.lower(): language for language in library.languages()}
-    known |= {name.split("-")[0]: language for name, language in known.items()}
+    # (without a region, the first language: `en` is `en-US`)
+    known = {name.split("-")[0]: it for name, it in reversed(known.items())} | known
     return BuiltIn(known[word.lower()]) if word.lower() in known else None
 
 

@@ -12,10 +12,7 @@ use csl::style::{
     CslMacro, DemoteNonDroppingParticle, InheritableNameOptions, Layout, OrdinalSlot, OrdinalTerm,
     StyleSettings, TermEntry, TermForm,
 };
-use csl::{
-    Locale, Style, brazilian_portuguese, dutch, english, french, german, italian, japanese, polish,
-    simplified_chinese, spanish,
-};
+use csl::{Language, Locale, Style};
 
 fn macro_of(forms: &Forms<'_>) -> Result<CslMacro, Fault> {
     forms.ensure_attributes(&["name"])?;
@@ -90,19 +87,12 @@ const LOCALE: &str = "punctuation-in-quote limit-day-ordinals-to-day-1";
 
 /// The locale of the language that the style names, if it names one.
 fn default_locale(forms: &Forms<'_>) -> Result<Option<Locale>, Fault> {
-    match forms.value("default-locale") {
-        None => Ok(None),
-        Some("en-US") => Ok(Some(english(forms.alloc)?)),
-        Some("de-DE") => Ok(Some(german(forms.alloc)?)),
-        Some("fr-FR") => Ok(Some(french(forms.alloc)?)),
-        Some("es-ES") => Ok(Some(spanish(forms.alloc)?)),
-        Some("it-IT") => Ok(Some(italian(forms.alloc)?)),
-        Some("ja-JP") => Ok(Some(japanese(forms.alloc)?)),
-        Some("nl-NL") => Ok(Some(dutch(forms.alloc)?)),
-        Some("pl-PL") => Ok(Some(polish(forms.alloc)?)),
-        Some("pt-BR") => Ok(Some(brazilian_portuguese(forms.alloc)?)),
-        Some("zh-CN") => Ok(Some(simplified_chinese(forms.alloc)?)),
-        Some(locale) => Err(forms.fault("no such locale", locale)),
+    let Some(tag) = forms.value("default-locale") else {
+        return Ok(None);
+    };
+    match Language::from_tag(tag) {
+        Some(language) => Ok(Some(language.locale(forms.alloc)?)),
+        None => Err(forms.fault("no such locale", tag)),
     }
 }
 

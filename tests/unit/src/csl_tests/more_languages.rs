@@ -13,10 +13,20 @@ use csl::style::{
     OtherTerm as Word, PageVariable,
 };
 use csl::{
-    Style, brazilian_portuguese, dutch, italian, japanese, polish, simplified_chinese, spanish,
+    Style, brazilian_portuguese, british_english, dutch, italian, japanese, polish,
+    simplified_chinese, spanish,
 };
 use std::process::Abort;
 use std::test::Fail;
+
+static BRITISH: [Row; 6] = [
+    (Other(Word::OpenQuote), Long, "‘", "‘"),
+    (Other(Word::CloseInnerQuote), Long, "”", "”"),
+    (Other(Word::Month(8)), Short, "Sep.", "Sep."),
+    (Number(Quantity::Volume), Short, "vol.", "vols"),
+    (Locator(Place::Chapter), Short, "chap.", "chaps"),
+    (Locator(Place::Timestamp), Long, "", ""),
+];
 
 static SPANISH: [Row; 6] = [
     (Other(Word::EtAl), Long, "et\u{a0}al.", "et\u{a0}al."),
@@ -73,8 +83,9 @@ static POLISH: [Row; 6] = [
     (Page(PageVariable::Page), Short, "s.", "s."),
 ];
 
-static JAPANESE: [Row; 6] = [
+static JAPANESE: [Row; 7] = [
     (Other(Word::EtAl), Long, "ほか", "ほか"),
+    (Other(Word::In), Long, "", ""),
     (Other(Word::OpenInnerQuote), Long, "『", "『"),
     (Other(Word::Month(11)), Short, "12月", "12月"),
     (Name(Role::Translator), Verb, "翻訳者：", "翻訳者："),
@@ -100,6 +111,17 @@ fn assert_ordinals(rt: &impl Abort, style: &Style, suffix: &str, word: Option<&s
 /// Asserts the gender of a volume.
 fn assert_gender(rt: &impl Abort, style: &Style, gender: Option<GrammarGender>) {
     assert_same(rt, &style.gender(Number(Quantity::Volume)), &gender);
+}
+
+#[test]
+fn british_terms_ordinals_and_settings(rt: HostRuntime) -> Result<(), Fail> {
+    let style = style_in(rt.alloc(), british_english(rt.alloc())?)?;
+    assert_terms(&rt, &style, &BRITISH);
+    assert_ordinals(&rt, &style, "nd", Some("third"));
+    assert_gender(&rt, &style, None);
+    assert_settings(&rt, &style, false);
+    drop(style);
+    Ok(())
 }
 
 #[test]

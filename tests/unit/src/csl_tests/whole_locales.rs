@@ -3,11 +3,8 @@
 //! `tools/compare_locales --sums` prints of the files of CSL's own locales.
 
 use crate::assertions::assert_same;
+use csl::Language;
 use csl::style::{Date, DatePart, Locale, OrdinalTerm, TermEntry};
-use csl::{
-    brazilian_portuguese, dutch, english, french, german, italian, japanese, polish,
-    simplified_chinese, spanish,
-};
 use std::alloc::Global;
 use std::fmt::Debug;
 use std::process::Abort;
@@ -117,25 +114,64 @@ fn add_option(rt: &impl Abort, sum: &mut Sum, name: &str, is_set: bool) {
 /// How many terms, ordinals and parts of dates a locale has, and the sum over its rows.
 type Figures = (usize, usize, usize, u64);
 
-static ENGLISH: Figures = (202, 17, 6, 0xee08_ad04_bcd5_60e1);
-
-static GERMAN: Figures = (206, 11, 6, 0x2f4e_fe6c_11bc_5a97);
-
-static FRENCH: Figures = (202, 13, 6, 0x328c_c085_b799_0cf8);
-
-static SPANISH: Figures = (202, 11, 6, 0xbb9a_a1e6_450e_c180);
-
-static ITALIAN: Figures = (204, 33, 6, 0x5970_6c51_a055_ba71);
-
-static PORTUGUESE: Figures = (202, 23, 6, 0x3b8f_b4ed_0b1d_96df);
-
-static DUTCH: Figures = (202, 29, 6, 0x4013_8523_9634_9c7c);
-
-static POLISH: Figures = (202, 11, 6, 0xda64_998b_d829_55de);
-
-static JAPANESE: Figures = (201, 17, 6, 0xf2e0_648b_64da_e9a8);
-
-static CHINESE: Figures = (203, 11, 6, 0xcd63_8847_70d8_1f76);
+/// Each language with its tag and its figures.
+static LANGUAGES: [(&str, Language, Figures); 11] = [
+    (
+        "en-US",
+        Language::English,
+        (204, 17, 6, 0xab2a_d11d_0ac6_8c55),
+    ),
+    (
+        "en-GB",
+        Language::BritishEnglish,
+        (204, 17, 6, 0x58d6_cc03_80ab_d4e0),
+    ),
+    (
+        "de-DE",
+        Language::German,
+        (208, 11, 6, 0xec71_2284_5fad_860b),
+    ),
+    (
+        "fr-FR",
+        Language::French,
+        (204, 13, 6, 0xefae_e49e_058a_386c),
+    ),
+    (
+        "es-ES",
+        Language::Spanish,
+        (204, 11, 6, 0x78bc_c5fe_92ff_ecf4),
+    ),
+    (
+        "it-IT",
+        Language::Italian,
+        (206, 33, 6, 0x1692_9069_ee46_e5e5),
+    ),
+    (
+        "pt-BR",
+        Language::BrazilianPortuguese,
+        (204, 23, 6, 0xf8b1_d905_590e_c253),
+    ),
+    (
+        "nl-NL",
+        Language::Dutch,
+        (204, 29, 6, 0xfd35_a93b_e425_c7f0),
+    ),
+    (
+        "pl-PL",
+        Language::Polish,
+        (204, 11, 6, 0x9786_bda4_261a_8152),
+    ),
+    (
+        "ja-JP",
+        Language::Japanese,
+        (204, 17, 6, 0x85d5_09ed_2206_e5d9),
+    ),
+    (
+        "zh-CN",
+        Language::SimplifiedChinese,
+        (205, 11, 6, 0x8a85_ac5f_bec9_4aea),
+    ),
+];
 
 fn figures(rt: &impl Abort, alloc: Global, locale: &Locale) -> Figures {
     let mut sum = Sum::new(alloc);
@@ -156,23 +192,44 @@ fn figures(rt: &impl Abort, alloc: Global, locale: &Locale) -> Figures {
     (locale.terms.len(), locale.ordinals.len(), parts, sum.rows)
 }
 
-fn assert_figures(rt: &impl Abort, alloc: Global, locale: Locale, wanted: Figures) {
-    assert_same(rt, &figures(rt, alloc, &locale), &wanted);
-    drop(locale);
+#[test]
+fn languages_have_all_of_their_locales(rt: HostRuntime) -> Result<(), Fail> {
+    let alloc = rt.alloc();
+    for (tag, language, wanted) in &LANGUAGES {
+        assert_same(&rt, &language.tag(), tag);
+        assert_same(&rt, &Language::from_tag(*tag), &Some(*language));
+        let locale = language.locale(alloc)?;
+        assert_same(&rt, &figures(&rt, alloc, &locale), wanted);
+        drop(locale);
+    }
+    Ok(())
 }
 
+/// Texts, and the languages that they are tags of: in either case, with `_` for `-`, and without a
+/// region.
+static TAGS: [(&str, Option<Language>); 17] = [
+    ("EN-us", Some(Language::English)),
+    ("en_US", Some(Language::English)),
+    ("en", Some(Language::English)),
+    ("en_gb", Some(Language::BritishEnglish)),
+    ("DE", Some(Language::German)),
+    ("pt", Some(Language::BrazilianPortuguese)),
+    ("pt_br", Some(Language::BrazilianPortuguese)),
+    ("zh", Some(Language::SimplifiedChinese)),
+    ("pt-PT", None),
+    ("es-MX", None),
+    ("zh-TW", None),
+    ("da", None),
+    ("", None),
+    ("-", None),
+    ("en-", None),
+    ("en US", None),
+    ("English", None),
+];
+
 #[test]
-fn locales_have_all_of_their_languages(rt: HostRuntime) -> Result<(), Fail> {
-    let alloc = rt.alloc();
-    assert_figures(&rt, alloc, english(alloc)?, ENGLISH);
-    assert_figures(&rt, alloc, german(alloc)?, GERMAN);
-    assert_figures(&rt, alloc, french(alloc)?, FRENCH);
-    assert_figures(&rt, alloc, spanish(alloc)?, SPANISH);
-    assert_figures(&rt, alloc, italian(alloc)?, ITALIAN);
-    assert_figures(&rt, alloc, brazilian_portuguese(alloc)?, PORTUGUESE);
-    assert_figures(&rt, alloc, dutch(alloc)?, DUTCH);
-    assert_figures(&rt, alloc, polish(alloc)?, POLISH);
-    assert_figures(&rt, alloc, japanese(alloc)?, JAPANESE);
-    assert_figures(&rt, alloc, simplified_chinese(alloc)?, CHINESE);
-    Ok(())
+fn tags_find_languages(rt: HostRuntime) {
+    for (tag, language) in &TAGS {
+        assert_same(&rt, &Language::from_tag(*tag), language);
+    }
 }

@@ -7,7 +7,7 @@ use csl::style::{
     Locator as Place, NameVariable as Role, NumberVariable as Quantity, Term, TermForm,
 };
 
-pub(crate) static ABSENT: [(Term, TermForm); 27] = [
+pub(crate) static ABSENT: [(Term, TermForm); 26] = [
     // Roles without a noun.
     (Name(Role::Author), Short),
     (Name(Role::CollectionEditor), Short),
@@ -38,5 +38,4 @@ pub(crate) static ABSENT: [(Term, TermForm); 27] = [
     (Locator(Place::Custom), Short),
     (Locator(Place::Number), Short),
     (Locator(Place::Supplement), Short),
-    (Locator(Place::Timestamp), Short),
 ];

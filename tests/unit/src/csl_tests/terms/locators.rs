@@ -5,7 +5,7 @@ use csl::style::Locator as Place;
 use csl::style::Term::Locator;
 use csl::style::TermForm::{Long, Short, Symbol};
 
-pub(crate) static LOCATORS: [Row; 47] = [
+pub(crate) static LOCATORS: [Row; 49] = [
     (Locator(Place::Act), Long, "act", "acts"),
     (Locator(Place::Appendix), Long, "appendix", "appendices"),
     (Locator(Place::Appendix), Short, "app.", "apps."),
@@ -48,6 +48,9 @@ pub(crate) static LOCATORS: [Row; 47] = [
     (Locator(Place::SubVerbo), Short, "s.v.", "s.vv."),
     (Locator(Place::Table), Long, "table", "tables"),
     (Locator(Place::Table), Short, "tbl.", "tbls."),
+    // CSL's own locales have an empty text here.
+    (Locator(Place::Timestamp), Long, "", ""),
+    (Locator(Place::Timestamp), Short, "", ""),
     (Locator(Place::Verse), Long, "verse", "verses"),
     (Locator(Place::Verse), Short, "v.", "vv."),
     (Locator(Place::Version), Long, "version", "version"),

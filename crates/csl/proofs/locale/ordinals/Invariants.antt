@@ -1,7 +1,0 @@
-use Rattle.std.proofs.Common.{◌≡◌, map, take}
-use Rattle.csl_elements.specs.Locale.{ordinal_view}
-use Rattle.csl.specs.Language.{ordinal_of_row}
-use Rattle.csl.proofs.locale.ordinals.Given as goal
-
-abbrev pub invariant-loop-row : goal.invariant-loop-row
-invariant-loop-row l = map ordinal_view l.ordinals.items ≡ map ordinal_of_row (take l.row-index l.rows)

@@ -1,0 +1,2 @@
+pub mod FirstTerms
+pub mod SameTag

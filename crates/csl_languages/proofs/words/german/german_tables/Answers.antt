@@ -1,0 +1,10 @@
+use Rattle.std.proofs.Common.{refl}
+use Rattle.std.specs.Char.{encode_utf8}
+use Rattle.csl_languages.proofs.words.german.german_tables.Goals as goal
+
+pub returns-clause-rows : goal.returns-clause-rows
+returns-clause-rows c = refl
+
+pub returns-clause-words : goal.returns-clause-words
+unfolding encode_utf8
+returns-clause-words c = refl
