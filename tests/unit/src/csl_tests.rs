@@ -1,9 +1,11 @@
-//! Tests of `csl`: its locales, its error, and cites and contexts through it alone.
+//! Tests of `csl`: its types by name, its locales, its error, and cites and contexts through it
+//! alone.
 
 mod cites;
 mod contexts;
 mod english;
 mod errors;
+mod every_type;
 mod languages;
 mod lists;
 mod more_languages;

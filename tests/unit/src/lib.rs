@@ -1,5 +1,4 @@
-//! The tests of the public calls, a module for each library, and the public surface. Nothing proves
-//! them.
+//! The tests of the public calls, a module for each library. Nothing proves them.
 #![tactic(auto)]
 
 #[cfg(test)]
@@ -22,5 +21,3 @@ mod csl_tree_tests;
 mod lit_model_tests;
 #[cfg(test)]
 mod shared;
-#[cfg(test)]
-mod surface;
