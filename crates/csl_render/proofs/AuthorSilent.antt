@@ -35,6 +35,7 @@ use Rattle.csl_render.specs.Names.{author, has_variable, names_or_substitute_inf
 use Rattle.csl_render.specs.Pair.{with_answers}
 use Rattle.csl_render.specs.Tested.{tested_in_node, tested_in_nodes, tested_in_branches, tested_in_substitutes}
 use Rattle.csl_render.specs.Tree.{is_group, info, nodes_info, branches_info, substitute_info, shows, any_shows, branches_show, substitute_shows, names_output, node_output, nodes_output, delimited_output, branches_output, output_until_text, substitute_output, delimited_child_output, macro_output, in_macro, group_output, in_group, layout_output}
+use Rattle.csl_render.proofs.Looks.{Free}
 use Rattle.csl_render.proofs.AlikeNodes.{lists_state_alike, holds_alike, shows_alike, info_alike, tree_alike, layout_alike}
 
 -- ---- booleans
@@ -111,6 +112,9 @@ module _ (a : Answers) (persons : List PersonView) where
   apart names absent (a_variable (variable.Name y)) h = other_names y (sameb the_type y Author) (is_other names y (sameb the_type y Author) (name_decides y Author).0 absent h)
   apart names absent (a_kind k) h = refl
 
+  apart_in : (s : State) (names : NamedSet) → names (a_variable author) ≡ false → Free a other s names
+  apart_in s names absent q h free = apart names absent q h
+
   module _ (w : RenderInput) where
     abbrev v : RenderInput
     v = with_answers a (suppressing_author w)
@@ -167,9 +171,9 @@ module _ (a : Answers) (persons : List PersonView) where
 
     mutual
       shows_same : (s : State) (f : ExpandedNode) → tested_in_node f (a_variable author) ≡ false → shows v s author f ≡ shows u s author f
-      shows_same s (expanded_text (of_variable (variable.Standard x) form) d) h = shows_alike a other (suppressing_author w) s author (expanded_text (of_variable (variable.Standard x) form) d) (apart (the_variable (variable.Standard x)) (standard_apart x))
-      shows_same s (expanded_text (of_variable (variable.Number x) form) d) h = shows_alike a other (suppressing_author w) s author (expanded_text (of_variable (variable.Number x) form) d) (apart _ (number_apart (number_or_page.Number x)))
-      shows_same s (expanded_text (of_variable (variable.Page x) form) d) h = shows_alike a other (suppressing_author w) s author (expanded_text (of_variable (variable.Page x) form) d) (apart _ (number_apart (number_or_page.Page x)))
+      shows_same s (expanded_text (of_variable (variable.Standard x) form) d) h = shows_alike a other (suppressing_author w) s author (expanded_text (of_variable (variable.Standard x) form) d) (apart_in s (the_variable (variable.Standard x)) (standard_apart x))
+      shows_same s (expanded_text (of_variable (variable.Number x) form) d) h = shows_alike a other (suppressing_author w) s author (expanded_text (of_variable (variable.Number x) form) d) (apart_in s _ (number_apart (number_or_page.Number x)))
+      shows_same s (expanded_text (of_variable (variable.Page x) form) d) h = shows_alike a other (suppressing_author w) s author (expanded_text (of_variable (variable.Page x) form) d) (apart_in s _ (number_apart (number_or_page.Page x)))
       shows_same s (expanded_text (of_variable (variable.Name x) form) d) h = refl
       shows_same s (expanded_text (of_variable (variable.Date x) form) d) h = refl
       shows_same s (expanded_text (of_term t form plural) d) h = refl
@@ -192,7 +196,7 @@ module _ (a : Answers) (persons : List PersonView) where
       branches_show_same s no_expanded_branches h = refl
       branches_show_same s (expanded_otherwise fs) h = any_shows_same s fs h
       branches_show_same s (expanded_branch ts fs cs) h =
-          rw (holds_alike a other (suppressing_author w) s ts (apart _ (absent_left _ _ _ h)), any_shows_same s fs (absent_left _ _ _ (absent_right _ _ _ h)), branches_show_same s cs (absent_right _ _ _ (absent_right _ _ _ h))) refl
+          rw (holds_alike a other (suppressing_author w) s ts (apart_in s _ (absent_left _ _ _ h)), any_shows_same s fs (absent_left _ _ _ (absent_right _ _ _ h)), branches_show_same s cs (absent_right _ _ _ (absent_right _ _ _ h))) refl
 
       substitute_shows_same : (s : State) (is : ExpandedSubstitutes) → tested_in_substitutes is (a_variable author) ≡ false → substitute_shows v s author is ≡ substitute_shows u s author is
       substitute_shows_same s no_expanded_substitutes h = refl
@@ -202,18 +206,18 @@ module _ (a : Answers) (persons : List PersonView) where
 
     mutual
       info_same : (s : State) (f : ExpandedNode) → tested_in_node f (a_variable author) ≡ false → info v s f ≡ info u s f
-      info_same s (expanded_text (of_variable (variable.Standard x) form) d) h = info_alike a other (suppressing_author w) s (expanded_text (of_variable (variable.Standard x) form) d) (apart _ (standard_apart x))
-      info_same s (expanded_text (of_variable (variable.Number x) form) d) h = info_alike a other (suppressing_author w) s (expanded_text (of_variable (variable.Number x) form) d) (apart _ (number_apart (number_or_page.Number x)))
-      info_same s (expanded_text (of_variable (variable.Page x) form) d) h = info_alike a other (suppressing_author w) s (expanded_text (of_variable (variable.Page x) form) d) (apart _ (number_apart (number_or_page.Page x)))
+      info_same s (expanded_text (of_variable (variable.Standard x) form) d) h = info_alike a other (suppressing_author w) s (expanded_text (of_variable (variable.Standard x) form) d) (apart_in s _ (standard_apart x))
+      info_same s (expanded_text (of_variable (variable.Number x) form) d) h = info_alike a other (suppressing_author w) s (expanded_text (of_variable (variable.Number x) form) d) (apart_in s _ (number_apart (number_or_page.Number x)))
+      info_same s (expanded_text (of_variable (variable.Page x) form) d) h = info_alike a other (suppressing_author w) s (expanded_text (of_variable (variable.Page x) form) d) (apart_in s _ (number_apart (number_or_page.Page x)))
       info_same s (expanded_text (of_variable (variable.Name x) form) d) h = refl
       info_same s (expanded_text (of_variable (variable.Date x) form) d) h = refl
       info_same s (expanded_text (of_term t form plural) d) h = refl
       info_same s (expanded_text (of_value bs) d) h = refl
       info_same s (expanded_macro fs d) h = ap (λ i. macro_info (without_group_flag i)) (infos_same s fs h)
       info_same s unknown_macro h = refl
-      info_same s (expanded_number n) h = info_alike a other (suppressing_author w) s (expanded_number n) (apart _ (number_apart n.variable))
-      info_same s (expanded_label x l) h = info_alike a other (suppressing_author w) s (expanded_label x l) (apart _ (number_apart x))
-      info_same s (expanded_date n) h = info_alike a other (suppressing_author w) s (expanded_date n) (apart _ (date_apart n.variable))
+      info_same s (expanded_number n) h = info_alike a other (suppressing_author w) s (expanded_number n) (apart_in s _ (number_apart n.variable))
+      info_same s (expanded_label x l) h = info_alike a other (suppressing_author w) s (expanded_label x l) (apart_in s _ (number_apart x))
+      info_same s (expanded_date n) h = info_alike a other (suppressing_author w) s (expanded_date n) (apart_in s _ (date_apart n.variable))
       info_same s (expanded_names n is) h =
           names_info_same s n (substitute_shows v s author is) (substitute_shows u s author is) (substitute_info v s is) (substitute_info u s is) (substitute_shows_same s is h) (substitute_info_same s is h)
       info_same s (shorthand written n) h = names_info_same s written false false no_info no_info refl refl
@@ -228,7 +232,7 @@ module _ (a : Answers) (persons : List PersonView) where
       branches_info_same s no_expanded_branches h = refl
       branches_info_same s (expanded_otherwise fs) h = ap without_group_flag (infos_same s fs h)
       branches_info_same s (expanded_branch ts fs cs) h =
-          rw (holds_alike a other (suppressing_author w) s ts (apart _ (absent_left _ _ _ h)), infos_same s fs (absent_left _ _ _ (absent_right _ _ _ h)), branches_info_same s cs (absent_right _ _ _ (absent_right _ _ _ h))) refl
+          rw (holds_alike a other (suppressing_author w) s ts (apart_in s _ (absent_left _ _ _ h)), infos_same s fs (absent_left _ _ _ (absent_right _ _ _ h)), branches_info_same s cs (absent_right _ _ _ (absent_right _ _ _ h))) refl
 
       substitute_info_same : (s : State) (is : ExpandedSubstitutes) → tested_in_substitutes is (a_variable author) ≡ false → substitute_info v s is ≡ substitute_info u s is
       substitute_info_same s no_expanded_substitutes h = refl
@@ -238,18 +242,18 @@ module _ (a : Answers) (persons : List PersonView) where
 
     mutual
       tree_same : (f : ExpandedNode) (inh : Inherited) (s : State) → tested_in_node f (a_variable author) ≡ false → node_output v f inh s ≡ node_output u f inh s
-      tree_same (expanded_text (of_variable (variable.Standard x) form) d) inh s h = tree_alike a other (suppressing_author w) (expanded_text (of_variable (variable.Standard x) form) d) inh s (apart _ (standard_apart x))
-      tree_same (expanded_text (of_variable (variable.Number x) form) d) inh s h = tree_alike a other (suppressing_author w) (expanded_text (of_variable (variable.Number x) form) d) inh s (apart _ (number_apart (number_or_page.Number x)))
-      tree_same (expanded_text (of_variable (variable.Page x) form) d) inh s h = tree_alike a other (suppressing_author w) (expanded_text (of_variable (variable.Page x) form) d) inh s (apart _ (number_apart (number_or_page.Page x)))
+      tree_same (expanded_text (of_variable (variable.Standard x) form) d) inh s h = tree_alike a other (suppressing_author w) (expanded_text (of_variable (variable.Standard x) form) d) inh s (apart_in s _ (standard_apart x))
+      tree_same (expanded_text (of_variable (variable.Number x) form) d) inh s h = tree_alike a other (suppressing_author w) (expanded_text (of_variable (variable.Number x) form) d) inh s (apart_in s _ (number_apart (number_or_page.Number x)))
+      tree_same (expanded_text (of_variable (variable.Page x) form) d) inh s h = tree_alike a other (suppressing_author w) (expanded_text (of_variable (variable.Page x) form) d) inh s (apart_in s _ (number_apart (number_or_page.Page x)))
       tree_same (expanded_text (of_variable (variable.Name x) form) d) inh s h = refl
       tree_same (expanded_text (of_variable (variable.Date x) form) d) inh s h = refl
-      tree_same (expanded_text (of_term t form plural) d) inh s h = tree_alike a other (suppressing_author w) (expanded_text (of_term t form plural) d) inh s (apart _ refl)
+      tree_same (expanded_text (of_term t form plural) d) inh s h = tree_alike a other (suppressing_author w) (expanded_text (of_term t form plural) d) inh s (apart_in s _ refl)
       tree_same (expanded_text (of_value bs) d) inh s h = refl
       tree_same (expanded_macro fs d) inh s h = ap₂ (λ i m. macro_output (should_render_group (macro_info (without_group_flag i)).flags) (suppressing_author w) d inh m s) (infos_same s fs h) (sum_same fs (in_macro d inh) s h)
       tree_same unknown_macro inh s h = refl
-      tree_same (expanded_number n) inh s h = tree_alike a other (suppressing_author w) (expanded_number n) inh s (apart _ (number_apart n.variable))
-      tree_same (expanded_label x l) inh s h = tree_alike a other (suppressing_author w) (expanded_label x l) inh s (apart _ (number_apart x))
-      tree_same (expanded_date n) inh s h = tree_alike a other (suppressing_author w) (expanded_date n) inh s (apart _ (date_apart n.variable))
+      tree_same (expanded_number n) inh s h = tree_alike a other (suppressing_author w) (expanded_number n) inh s (apart_in s _ (number_apart n.variable))
+      tree_same (expanded_label x l) inh s h = tree_alike a other (suppressing_author w) (expanded_label x l) inh s (apart_in s _ (number_apart x))
+      tree_same (expanded_date n) inh s h = tree_alike a other (suppressing_author w) (expanded_date n) inh s (apart_in s _ (date_apart n.variable))
       tree_same (expanded_names n is) inh s h =
           let t = lists_state u s n.variables in
           ap (λ (t : State). names_output v n is inh (substitute_output v is (in_substitute n inh) (suppressing_from t)) (resolved_lists v s n.variables) t) (lists_state_alike a other (suppressing_author w) s n.variables)
@@ -283,7 +287,7 @@ module _ (a : Answers) (persons : List PersonView) where
       branches_tree_same no_expanded_branches inh s h = refl
       branches_tree_same (expanded_otherwise fs) inh s h = delimited_same fs inh true s h
       branches_tree_same (expanded_branch ts fs cs) inh s h =
-          rw (holds_alike a other (suppressing_author w) s ts (apart _ (absent_left _ _ _ h)), delimited_same fs inh true s (absent_left _ _ _ (absent_right _ _ _ h)), branches_tree_same cs inh s (absent_right _ _ _ (absent_right _ _ _ h))) refl
+          rw (holds_alike a other (suppressing_author w) s ts (apart_in s _ (absent_left _ _ _ h)), delimited_same fs inh true s (absent_left _ _ _ (absent_right _ _ _ h)), branches_tree_same cs inh s (absent_right _ _ _ (absent_right _ _ _ h))) refl
 
       substitute_tree_same : (is : ExpandedSubstitutes) (inh : Inherited) (s : State) → tested_in_substitutes is (a_variable author) ≡ false → substitute_output v is inh s ≡ substitute_output u is inh s
       substitute_tree_same no_expanded_substitutes inh s h = refl
@@ -318,6 +322,6 @@ module _ (l : ExpandedLayout) (a b : Answers) (alike : AgreeButForAuthors (named
   pub author_silent : (w : RenderInput) → w.instance.special ≡ Some SuppressAuthor → tested_in_nodes l.elements (a_variable author) ≡ false → (inh : Inherited) (s : State) → layout_output (with_answers a w) l inh s ≡ layout_output (with_answers b w) l inh s
   author_silent w special tested inh s =
       let under : w ≡ suppressing_author w = ap (λ (o : Option SpecialForm). record w { instance = record w.instance { special = o } }) special in
-      layout_alike a (with_authors (a.names Author) b) w l inh s alike_with
+      layout_alike a (with_authors (a.names Author) b) w l inh s (λ q h free. alike_with q h)
       ∙ subst (λ (z : RenderInput). layout_output (with_answers (with_authors (a.names Author) b) z) l inh s ≡ layout_output (with_answers b z) l inh s) (sym under)
       (sym (sum_same b (a.names Author) w l.elements (record (with_node_formatting l.formatting inh) { delimiter = l.delimiter }) s tested))

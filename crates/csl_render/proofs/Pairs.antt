@@ -15,6 +15,7 @@ use Rattle.csl_context.specs.declared.error.RenderError.TheVariants.{Memory, Fai
 use Rattle.csl_context.specs.Context.{ContextView, FailsAs, base_inherited}
 use Rattle.csl_context.specs.State.{State}
 use Rattle.csl_context.specs.RenderInput.{RenderInput}
+use Rattle.csl_nodes.specs.Text.{RenderOutput}
 use Rattle.csl_render.specs.Pair.{with_answers, layout_output_from, Prints, PrintsSame}
 use Rattle.csl_render.proofs.AlikeNodes.{layout_alike}
 
@@ -27,12 +28,16 @@ pub end_wants_memory : (e : RenderError) (failed : Bool) → (e ≡ Failed) ↔ 
 end_wants_memory Memory failed h was_live = refl
 end_wants_memory Failed failed h was_live = let had : failed ≡ true = h.0 refl in cc
 
+-- what two renderings print is the same if their contents and states are
+pub prints_same : (m n : RenderOutput) → m ≡ n → (r : Rendered) (html : List ℕ) (q : Rendered) (other : List ℕ) → Prints m r html → Prints n q other → PrintsSame r html q other
+prints_same m n e r html q other one two = record {
+  rendering = one.rendering ∙ e ∙ sym two.rendering;
+  html = one.html ∙ ap (λ (k : RenderOutput). text_in_format Html k.content) e ∙ sym two.html;
+}
+
 module _ (s : State) (w : RenderInput) (l : Layout) (a b : Answers) (alike : SameNamedAnswers (named_in_nodes (expand_layout (macro_env w.style) (view_layout l)).elements) a b) where
   pub printed_alike : layout_output_from s (with_answers a w) l ≡ layout_output_from s (with_answers b w) l
-  printed_alike = layout_alike a b w (expand_layout (macro_env w.style) (view_layout l)) (base_inherited w.style w.scope) s alike
+  printed_alike = layout_alike a b w (expand_layout (macro_env w.style) (view_layout l)) (base_inherited w.style w.scope) s (λ q h free. alike q h)
 
   pub printed_same : (r : Rendered) (html : List ℕ) (q : Rendered) (other : List ℕ) → Prints (layout_output_from s (with_answers a w) l) r html → Prints (layout_output_from s (with_answers b w) l) q other → PrintsSame r html q other
-  printed_same r html q other one two = record {
-    rendering = one.rendering ∙ printed_alike ∙ sym two.rendering;
-    html = one.html ∙ ap (λ m. text_in_format Html m.content) printed_alike ∙ sym two.html;
-  }
+  printed_same = prints_same (layout_output_from s (with_answers a w) l) (layout_output_from s (with_answers b w) l) printed_alike

@@ -1,30 +1,33 @@
 -- The laws of rendering, over the definitions of `Tree` and `Render`. Each holds for every input,
--- and `proofs/Theorems.antt` proves it. The first two are clauses of `render_pair`, and the last one
--- is the clause `by_date` of `sort_key`, for the key that it returns.
+-- and `proofs/Theorems.antt` proves it. The first two are clauses of `render_pair`. Others are what
+-- clauses say of one call: `suppressed` and `one_variable` of `render_pair`, `silent` of `cite_in`,
+-- and `by_date` of `sort_key`, for the key that it returns.
 use Rattle.std.specs.Prelude.{◌≡◌, true, false, Option, Some}
 use Rattle.csl_elements.specs.declared.element.Layout.{Layout}
 use Rattle.csl_elements.specs.declared.named.Named.{Named}
-use Rattle.csl_elements.specs.NamedSet.{NamedItem, a_variable, named_set}
+use Rattle.csl_elements.specs.declared.taxonomy.Variable.{Variable}
+use Rattle.csl_elements.specs.NamedSet.{NamedItem, a_variable, named_set, named_union}
 use Rattle.csl_elements.specs.Node.{ExpandedLayout}
 use Rattle.csl_style.specs.declared.style.settings.Scope.{Scope}
-use Rattle.csl_style.specs.Named.{named_in_nodes}
+use Rattle.csl_style.specs.Named.{named_in_nodes, the_variable}
 use Rattle.csl_style.specs.Style.{StyleParts}
 use Rattle.csl_entry.specs.Alike.{SameNamedAnswers}
 use Rattle.csl_entry.specs.Answers.{Answers}
 use Rattle.csl_entry.specs.Cite.{CiteState}
 use Rattle.csl_entry.specs.declared.citation.cite.Sorting.{Sorting}
 use Rattle.csl_entry.specs.declared.citation.cite.SpecialForm.{SpecialForm}
-use Rattle.csl_entry.specs.declared.citation.cite.SpecialForm.TheVariants.{SuppressAuthor}
+use Rattle.csl_entry.specs.declared.citation.cite.SpecialForm.TheVariants.{SuppressAuthor, VarOnly}
 use Rattle.csl_entry.specs.Snapshot.{snapshot_of, kept_in}
 use Rattle.csl_context.specs.RenderInput.{RenderInput}
 use Rattle.csl_context.specs.State.{Inherited, State}
 use Rattle.csl_render.specs.Cites.{new_cite, sort_key_text, named_by, AgreeButForAuthors}
 use Rattle.csl_render.specs.Keeps.{Keeps}
 use Rattle.csl_render.specs.Names.{author}
-use Rattle.csl_render.specs.Pair.{with_answers}
+use Rattle.csl_render.specs.Pair.{with_answers, AgreeButForSuppressed}
 use Rattle.csl_render.specs.Render.{Renderable, output_in}
 use Rattle.csl_render.specs.SortedDates.{SortsByDate}
 use Rattle.csl_render.specs.Tested.{tested_in_nodes}
+use Rattle.csl_render.specs.Told.{told_in_nodes}
 use Rattle.csl_render.specs.Tree.{layout_output}
 
 -- Entries that answer alike on what a layout names have equal contents and states by it.
@@ -69,3 +72,17 @@ SuppressedAuthorsAreSilent = (w : RenderInput) (l : ExpandedLayout) (a b : Answe
 abbrev pub SortKeysOrderAsDates : Type 0
 SortKeysOrderAsDates = (style : StyleParts) (scope : Scope) (cite : CiteState) (sorting : Sorting) (a : Answers) (layout : Layout)
     → SortsByDate (sort_key_text style scope cite sorting a layout) style scope cite sorting a layout
+
+-- A variable that is suppressed is told by nothing after it: from a state, two entries that answer
+-- alike on all that a layout names and that the state does not suppress have equal contents and
+-- states.
+abbrev pub SuppressedVariablesAreSilent : Type 0
+SuppressedVariablesAreSilent = (w : RenderInput) (l : ExpandedLayout) (a b : Answers) (inherited : Inherited) (s : State)
+    → AgreeButForSuppressed s (named_in_nodes l.elements) a b → layout_output (with_answers a w) l inherited s ≡ layout_output (with_answers b w) l inherited s
+
+-- A cite that shows one variable alone tells no other: two entries that answer alike on it, and on
+-- what the layout tells beside it (`Told`), have equal contents and states.
+abbrev pub OneVariableTellsNoOther : Type 0
+OneVariableTellsNoOther = (w : RenderInput) (l : ExpandedLayout) (v : Variable) (a b : Answers) → w.instance.special ≡ Some (VarOnly v)
+    → SameNamedAnswers (named_union (the_variable v) (told_in_nodes v l.elements)) a b
+    → (inherited : Inherited) (s : State) → layout_output (with_answers a w) l inherited s ≡ layout_output (with_answers b w) l inherited s

@@ -10,5 +10,6 @@ pub mod Pair
 pub mod Keeps
 pub mod Cites
 pub mod Tested
+pub mod Told
 pub mod SortedDates
 pub mod Laws

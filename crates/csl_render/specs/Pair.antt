@@ -3,10 +3,12 @@
 -- one type or of two, are *alike* for a layout if they answer alike on all that it and the macros
 -- it reaches name. The layout then prints the same for both, in one style and cite and from one
 -- state: content, state and HTML. It may print the same for entries that are not alike, because
--- both forms of a title are compared and every branch counts, chosen or not.
-use Rattle.std.specs.Prelude.{◌≡◌, ℕ, List, Option}
+-- both forms of a title are compared and every branch counts, chosen or not. What the state suppresses
+-- is not asked of an entry, so they may differ there (Substitute).
+use Rattle.std.specs.Prelude.{◌≡◌, ℕ, Bool, true, not, List, Option}
 use Rattle.csl_elements.specs.declared.element.Layout.{Layout}
 use Rattle.csl_style.specs.declared.style.settings.Scope.{Scope}
+use Rattle.csl_elements.specs.NamedSet.{NamedItem, a_variable, a_kind, NamedSet}
 use Rattle.csl_elements.specs.Node.{expand_layout}
 use Rattle.csl_style.specs.Style.{StyleParts}
 use Rattle.csl_elements.specs.View.{view_layout}
@@ -14,12 +16,13 @@ use Rattle.csl_style.specs.Expanded.{macro_env}
 use Rattle.csl_tree.specs.Tokens.{tokens}
 use Rattle.csl_tree.specs.Write.{text_in_format}
 use Rattle.csl_tree.specs.declared.elem.BufWriteFormat.TheVariants.{Html}
+use Rattle.csl_entry.specs.Alike.{SameAnswer}
 use Rattle.csl_entry.specs.Answers.{Answers}
 use Rattle.csl_entry.specs.Cite.{CiteState}
 use Rattle.csl_entry.specs.declared.citation.cite.Sorting.{Sorting}
 use Rattle.csl_entry.specs.declared.citation.cite.SpecialForm.{SpecialForm}
 use Rattle.csl_context.specs.declared.context.Rendered.{Rendered}
-use Rattle.csl_context.specs.State.{left_state_view, State}
+use Rattle.csl_context.specs.State.{left_state_view, State, is_suppressed}
 use Rattle.csl_context.specs.Context.{base_inherited}
 use Rattle.csl_context.specs.RenderInput.{RenderInput}
 use Rattle.csl_nodes.specs.Text.{RenderOutput, render_output}
@@ -53,3 +56,12 @@ pub record Prints (m : RenderOutput) (r : Rendered) (bytes : List ℕ) : Type 0 
 pub record PrintsSame (r : Rendered) (bytes : List ℕ) (other : Rendered) (others : List ℕ) : Type 0 where
   pub rendering : output_of r ≡ output_of other
   pub html : bytes ≡ others
+
+-- whether a state leaves a variable or a kind to be asked for
+abbrev pub is_free : State → NamedItem → Bool
+is_free s (a_variable v) = not (is_suppressed s v)
+is_free s (a_kind k) = true
+
+-- both answers agree on a set, but for what a state suppresses
+abbrev pub AgreeButForSuppressed : State → NamedSet → Answers → Answers → Type 0
+AgreeButForSuppressed s names a b = (item : NamedItem) → names item ≡ true → is_free s item ≡ true → SameAnswer a b item

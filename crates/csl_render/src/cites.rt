@@ -3,8 +3,9 @@
 ghost use Rattle.std.specs.Prelude.{◌≡◌, true, false, Some, IfOk, IfErr, IfSome, option_map, string_bytes};
 ghost use Rattle.std.specs.Bool.{Decides};
 ghost use Rattle.csl_style.specs.declared.style.settings.Scope.TheVariants as scopes;
-ghost use Rattle.csl_style.specs.Named.{named_in_nodes};
-ghost use Rattle.csl_elements.specs.NamedSet.{a_variable, named_set};
+ghost use Rattle.csl_style.specs.Named.{named_in_nodes, the_variable};
+ghost use Rattle.csl_elements.specs.declared.taxonomy.Variable.{Variable};
+ghost use Rattle.csl_elements.specs.NamedSet.{a_variable, named_set, named_union};
 ghost use Rattle.csl_elements.specs.Node.{expand_layout};
 ghost use Rattle.csl_elements.specs.View.{view_layout};
 ghost use Rattle.csl_style.specs.Expanded.{macro_env};
@@ -18,6 +19,7 @@ ghost use Rattle.csl_render.specs.Names.{author};
 ghost use Rattle.csl_render.specs.Pair.{cite_input, layout_output_from, output_of, Prints, PrintsSame};
 ghost use Rattle.csl_render.specs.SortedDates.{SortsByDate};
 ghost use Rattle.csl_render.specs.Tested.{variables_of_tests};
+ghost use Rattle.csl_render.specs.Told.{told_beside};
 
 use crate::pair::{Pair, are_alike_on, render_both, render_pair};
 use crate::render::RenderCsl;
@@ -133,6 +135,12 @@ pub fn cite_in<T: EntryLike>(
         → AgreeButForAuthors (named_by style.now style.now.citation) (T.answers entry.now) others
         → IfOk result (λ r. output_of r ≡ special_cite style.now (cite_state cite_props.now) form
         others) }
+    // With one variable alone it tells no other, but for what the layout tells beside it.
+    ensures alone { (v : Variable) → form ≡ special_forms.VarOnly v → (others : Answers)
+        → SameNamedAnswers (named_union (the_variable v)
+        (told_beside v style.now style.now.citation)) (T.answers entry.now) others
+        → IfOk result (λ r. output_of r ≡ special_cite style.now (cite_state cite_props.now) form
+        others) }
     ensures err { IfErr result (λ e. e ≡ RenderError.Memory) }
 {
     let (layout, scope) = (style.citation(), Scope::Citation);
@@ -196,6 +204,10 @@ pub fn sort_key<T: EntryLike>(
 ) -> Result<String, RenderError>
     ensures ok { IfOk result (λ key. string_bytes key ≡ sort_key_text style.now scope
         (cite_state cite_props.now) sorting (T.answers entry.now) layout.now) }
+    // Entries of any type that answer alike on what the layout names have the same key.
+    ensures decided { HoldsForAlike (named_by style.now layout.now) (T.answers entry.now)
+        (λ others. IfOk result (λ key. string_bytes key ≡ sort_key_text style.now scope
+        (cite_state cite_props.now) sorting others layout.now)) }
     // By a layout of one date alone, it compares with other keys as the dates do in time.
     ensures by_date { IfOk result (λ key. SortsByDate (string_bytes key) style.now scope
         (cite_state cite_props.now) sorting (T.answers entry.now) layout.now) }

@@ -1,17 +1,20 @@
 //! Renders two entries by one layout, and compares their answers.
 
-ghost use Rattle.std.specs.Prelude.{◌≡◌, true, IfOk, IfErr, string_bytes};
+ghost use Rattle.std.specs.Prelude.{◌≡◌, true, Some, IfOk, IfErr, string_bytes};
 ghost use Rattle.std.specs.Bool.{Decides};
-ghost use Rattle.csl_style.specs.Named.{named_in_nodes};
-ghost use Rattle.csl_elements.specs.NamedSet.{named_set};
+ghost use Rattle.csl_style.specs.Named.{named_in_nodes, the_variable};
+ghost use Rattle.csl_elements.specs.declared.taxonomy.Variable.{Variable};
+ghost use Rattle.csl_elements.specs.NamedSet.{named_set, named_union};
 ghost use Rattle.csl_elements.specs.Node.{expand_layout};
 ghost use Rattle.csl_elements.specs.View.{view_layout};
 ghost use Rattle.csl_style.specs.Expanded.{macro_env};
 ghost use Rattle.csl_entry.specs.Alike.{SameNamedAnswers};
 ghost use Rattle.csl_entry.specs.Cite.{cite_state};
+ghost use Rattle.csl_entry.specs.declared.citation.cite.SpecialForm.TheVariants as special_forms;
 ghost use Rattle.csl_context.specs.State.{left_state_view};
 ghost use Rattle.csl_render.specs.Laws.{RenderingKeepsState, AlikeEntriesRenderAlike};
-ghost use Rattle.csl_render.specs.Pair.{cite_input, layout_output_from, Prints, PrintsSame};
+ghost use Rattle.csl_render.specs.Pair.{cite_input, layout_output_from, AgreeButForSuppressed, Prints, PrintsSame};
+ghost use Rattle.csl_render.specs.Told.{told_beside};
 
 use crate::cites::render_from;
 use csl_context::{LeftState, RenderError, Rendered};
@@ -157,6 +160,16 @@ pub fn render_pair<'s, T: EntryLike, U: EntryLike>(
         (named_in_nodes (expand_layout (macro_env style.now) (view_layout layout.now)).elements)
         (T.answers left.now) (U.answers right.now))) }
     ensures same { IfOk result (λ p. p.alike ≡ true
+        → PrintsSame p.left (string_bytes p.left_html) p.right (string_bytes p.right_html)) }
+    // What the state before them suppresses, neither tells.
+    ensures suppressed { IfOk result (λ p. AgreeButForSuppressed (left_state_view start.now)
+        (named_in_nodes (expand_layout (macro_env style.now) (view_layout layout.now)).elements)
+        (T.answers left.now) (U.answers right.now)
+        → PrintsSame p.left (string_bytes p.left_html) p.right (string_bytes p.right_html)) }
+    // A cite of one variable alone tells no other, but for what the layout tells beside it.
+    ensures one_variable { IfOk result (λ p. (v : Variable) → kind ≡ Some (special_forms.VarOnly v)
+        → SameNamedAnswers (named_union (the_variable v) (told_beside v style.now layout.now))
+        (T.answers left.now) (U.answers right.now)
         → PrintsSame p.left (string_bytes p.left_html) p.right (string_bytes p.right_html)) }
     // Two laws over the definitions, for every input.
     ensures keeps { RenderingKeepsState }
