@@ -5,6 +5,7 @@ pub mod cites;
 mod entry;
 mod full_note;
 mod html;
+mod limited;
 mod lists;
 mod literature;
 mod nested;
@@ -93,6 +94,9 @@ pub fn count(alloc: Global, name: &str, size: usize) -> Result<usize, WorkError>
             strangers::few_colliding_macros_suppressed(alloc, size)
         }
         "doubled" => strangers::doubled(alloc, size),
+        "long_delimiter" => limited::long_delimiter(alloc, size),
+        "long_initials" => limited::long_initials(alloc, size),
+        "numbers_of_ranges" => limited::numbers_of_ranges(alloc, size),
         _ => Err(WorkError::Unexpected("no such work")),
     }
 }

@@ -32,6 +32,7 @@ pub fn result(alloc: Global, name: &str) -> Result<String, WorkError> {
         "suffixed" => cites::suffixed(alloc),
         "suppressed" => cites::suppressed(alloc),
         "date-only" => cites::date_only(alloc),
+        "limited" => cites::limited(alloc),
         "shortened" => cites::shortened(alloc),
         "simplify" => trees::simplify(alloc),
         "flat" => trees::flat(alloc),

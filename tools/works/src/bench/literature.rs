@@ -6,7 +6,7 @@ use csl::literature::{EntryType, Numeric, NumericValue, PageRanges, Person};
 use std::alloc::Global;
 
 /// A text of `size` units and an end.
-fn repetition(alloc: Global, unit: &str, size: usize, end: &str) -> Result<String, WorkError> {
+pub fn repetition(alloc: Global, unit: &str, size: usize, end: &str) -> Result<String, WorkError> {
     let mut text = String::new(alloc);
     for _ in 0..size {
         text.push_str(unit)?;

@@ -8,8 +8,8 @@ use csl::literature::ChunkedString;
 use csl::style::{DateVariable, NameVariable};
 use csl::{
     Alphanumerical, BufWriteFormat, CiteProperties, Context, DisambiguateState,
-    DisambiguatedNameForm, EntryLike, InstanceContext, Pair, RenderCsl, Rendered, Scope, Style,
-    cite_pair,
+    DisambiguatedNameForm, Entry, EntryLike, InstanceContext, Pair, RenderCsl, Rendered, Scope,
+    Style, cite_pair,
 };
 use csl_samples::{BuiltIn, BuiltInStyle, TitleOnly, title_style};
 use std::alloc::Global;
@@ -61,6 +61,54 @@ fn cite(
 /// The whole cite.
 pub fn whole(alloc: Global) -> Result<String, WorkError> {
     cite(alloc, BuiltIn::CrazyRich, DisambiguateState::None, None)
+}
+
+/// The text of a cite under a limit, or `None` if the limit refuses it, and the bytes that are left.
+fn text_within(
+    alloc: Global,
+    style: &Style,
+    entry: &Entry,
+    limit: u64,
+) -> Result<(Option<String>, u64), WorkError> {
+    let cite_props = CiteProperties::first(DisambiguateState::None);
+    let instance = InstanceContext {
+        entry,
+        cite_props: &cite_props,
+        sorting: None,
+        kind: None,
+    };
+    let mut ctx = Context::new(alloc, style, instance, Scope::Citation)?;
+    ctx.limit(limit);
+    let rendered = style.citation().render(&mut ctx);
+    let room = ctx.room();
+    if rendered.is_err() && room > 0 {
+        return Err(refusal(ctx));
+    }
+    if rendered.is_err() {
+        drop(ctx);
+        return Ok((None, 0));
+    }
+    let rendered = ctx.finish()?;
+    let text = rendered.content.to_text(alloc, BufWriteFormat::Plain)?;
+    Ok((Some(text), room))
+}
+
+/// The whole cite under a limit of one byte more than it takes. Each eighth of that refuses it.
+pub fn limited(alloc: Global) -> Result<String, WorkError> {
+    let style = BuiltInStyle::AuthorDate.style(alloc)?;
+    let entry = BuiltIn::CrazyRich.entry(alloc)?;
+    let (_, left) = text_within(alloc, &style, &entry, 1_000_000)?;
+    let taken = 1_000_000 - left;
+    for eighth in 0..8u64 {
+        let (text, _) = text_within(alloc, &style, &entry, taken * eighth / 8)?;
+        if text.is_some() {
+            return Err(WorkError::Unexpected("the limit is forgotten"));
+        }
+    }
+    match text_within(alloc, &style, &entry, taken + 1)? {
+        (Some(text), 1) => Ok(text),
+        _ => Err(WorkError::Unexpected("another cite")),
+    }
 }
 
 /// With a year suffix of three letters.
