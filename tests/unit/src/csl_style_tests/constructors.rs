@@ -6,9 +6,9 @@ use crate::shared::{alone, put};
 use csl_style::{
     Affixes, Choose, ChooseBranch, ChooseMatch, CslMacro, Date, DateForm, DatePart, DatePartName,
     DateVariable, EtAl, FontStyle, Formatting, Group, Kind, Label, Layout, LayoutRenderingElement,
-    Locale, Name, NameVariable, Names, NamesChild, Number, NumberOrPageVariable, NumberVariable,
-    OtherTerm, PageVariable, StandardVariable, Substitute, Term, TermEntry, TermForm, Text,
-    TextTarget, Variable, VariablelessLabel,
+    Locale, LongShortForm, Name, NameVariable, Names, NamesChild, Number, NumberOrPageVariable,
+    NumberVariable, OtherTerm, PageVariable, StandardVariable, Substitute, Term, TermEntry,
+    TermForm, Text, TextTarget, Variable, VariablelessLabel,
 };
 use lit_model::{Memory, NumberForm};
 use std::alloc::Global;
@@ -181,10 +181,11 @@ fn assert_words(rt: &impl Abort, element: LayoutRenderingElement, wanted: &str) 
 #[test]
 fn texts_print_words_and_macros(rt: HostRuntime) {
     let alloc = rt.alloc();
-    let words = Text::value(alloc, "in press").expect(&rt, "memory");
-    assert_words(&rt, words.into(), "in press");
-    let call = Text::macro_call(alloc, "author").expect(&rt, "memory");
-    assert_words(&rt, call.into(), "author");
+    // Spaces at an end stay.
+    let words = Text::value(alloc, " in press ").expect(&rt, "memory");
+    assert_words(&rt, words.into(), " in press ");
+    let call = Text::macro_call(alloc, " author ").expect(&rt, "memory");
+    assert_words(&rt, call.into(), " author ");
     assert_words(&rt, quoted_words(alloc, "sic").expect(&rt, "memory"), "sic");
 }
 
@@ -207,6 +208,24 @@ fn texts_have_the_attributes_that_are_set(rt: HostRuntime) {
     assert_same(&rt, &attributes(and.into()), &Some((plain, false)));
     let words = quoted_words(rt.alloc(), "sic").expect(&rt, "memory");
     assert_same(&rt, &attributes(words), &Some((plain, true)));
+}
+
+/// Whether a text is of a variable in its long form, or of a term in its long form for one.
+fn is_long(text: Text) -> bool {
+    let found = match &text.target {
+        TextTarget::Variable { form, .. } => *form == LongShortForm::Long,
+        TextTarget::Term { form, plural, .. } => *form == TermForm::Long && !*plural,
+        TextTarget::Macro { .. } | TextTarget::Value { .. } => false,
+    };
+    drop(text);
+    found
+}
+
+#[test]
+fn texts_are_in_the_long_form(rt: HostRuntime) {
+    let title = Text::variable(StandardVariable::Title.into());
+    assert_same(&rt, &is_long(title), &true);
+    assert_same(&rt, &is_long(Text::term(OtherTerm::And.into())), &true);
 }
 
 /// The form of a number or of a label.
@@ -284,11 +303,15 @@ fn a_group_may_hold_a_date(rt: HostRuntime) {
     assert_group(&rt, in_parentheses(alloc, children).expect(&rt, "memory"));
 }
 
-/// Authors with a name, et al., a long label and a substitute.
+/// Authors with a name, et al., a short label and a substitute.
 fn authors(rt: &impl Abort, alloc: Global) -> LayoutRenderingElement {
     let mut children: Vec<NamesChild> = alone(rt, alloc, Name::new(alloc).into());
     put(rt, &mut children, EtAl::default().into());
-    put(rt, &mut children, VariablelessLabel::default().into());
+    let label = VariablelessLabel {
+        form: TermForm::Short,
+        ..VariablelessLabel::default()
+    };
+    put(rt, &mut children, label.into());
     let substitute = Substitute {
         children: Vec::new(alloc),
     };
@@ -306,7 +329,10 @@ fn assert_names(rt: &impl Abort, element: LayoutRenderingElement) {
         );
         assert_same(rt, &names.children.len(), &4);
         let parts = names.parts();
-        assert_same(rt, &parts.label().map(|label| label.is_after), &Some(true));
+        let label = parts
+            .label()
+            .map(|label| (label.label.form, label.is_after));
+        assert_same(rt, &label, &Some((TermForm::Short, true)));
         assert_same(rt, &names.substitute().is_some(), &true);
     } else {
         assert_same(rt, &"another node", &"names");
@@ -377,11 +403,12 @@ fn a_layout_holds_its_elements(rt: HostRuntime) {
 #[test]
 fn terms_have_a_text_for_one_or_two(rt: HostRuntime) {
     let alloc = rt.alloc();
-    let and = TermEntry::new(alloc, OtherTerm::And.into(), TermForm::Long, "and");
-    let and = and.expect(&rt, "memory");
-    assert_same(&rt, &and.term, &Term::Other(OtherTerm::And));
-    assert_same(&rt, &and.form, &TermForm::Long);
-    assert_text(&rt, Some(and.text(true)), Some("and"));
+    let by = TermEntry::new(alloc, OtherTerm::By.into(), TermForm::Long, "by");
+    let by = by.expect(&rt, "memory");
+    assert_same(&rt, &by.term, &Term::Other(OtherTerm::By));
+    assert_same(&rt, &by.form, &TermForm::Long);
+    assert_text(&rt, Some(by.text(true)), Some("by"));
+    assert_text(&rt, by.multiple.as_deref(), None);
     let volume = TermEntry::counted(
         alloc,
         NumberVariable::Volume.into(),
@@ -396,7 +423,8 @@ fn terms_have_a_text_for_one_or_two(rt: HostRuntime) {
     let mut locale = Locale::new(alloc);
     assert_same(&rt, &locale.terms.len(), &0);
     assert_same(&rt, &locale.ordinals.len(), &0);
-    put(&rt, &mut locale.terms, and);
+    assert_same(&rt, &locale.punctuation_in_quote, &false);
+    put(&rt, &mut locale.terms, by);
     put(&rt, &mut locale.terms, volume);
     assert_same(&rt, &locale.terms.len(), &2);
     drop(locale);

@@ -36,6 +36,7 @@ fn options_have_their_defaults(rt: HostRuntime) {
 
 fn assert_name(rt: &impl Abort, name: Name) {
     assert_same(rt, &name.options.form, &None);
+    assert_same(rt, &name.options.initialize, &None);
     assert_same(rt, &name.parts.len(), &0);
     drop(name);
 }

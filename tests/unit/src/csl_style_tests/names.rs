@@ -30,7 +30,7 @@ fn options_that_are_not_set_have_their_defaults(rt: HostRuntime) {
     assert_text(&rt, Some(options.sort_separator), Some(", "));
 }
 
-/// The options that a node inherits: two delimiters and a limit.
+/// The options that a node inherits: two delimiters and two limits.
 fn around(rt: &impl Abort, alloc: Global) -> InheritableNameOptions {
     let delimiter = copy_text(rt, alloc, Some("; "));
     let names_delimiter = copy_text(rt, alloc, Some(" | "));
@@ -38,13 +38,15 @@ fn around(rt: &impl Abort, alloc: Global) -> InheritableNameOptions {
     around.delimiter = delimiter;
     around.names_delimiter = names_delimiter;
     around.et_al_min = Some(4);
+    around.et_al_use_first = Some(3);
     around
 }
 
-/// A node's own options: an empty delimiter and a form.
+/// A node's own options: an empty delimiter, a limit and a form.
 fn own(alloc: Global) -> InheritableNameOptions {
     let mut own = InheritableNameOptions::default();
     own.delimiter = Some(String::new(alloc));
+    own.et_al_min = Some(2);
     own.form = Some(NameForm::Short);
     own
 }
@@ -60,7 +62,8 @@ fn assert_own_options_count(
     let options = options.name_options();
     assert_text(rt, Some(options.delimiter), Some(""));
     assert_same(rt, &options.form, &NameForm::Short);
-    assert_same(rt, &options.et_al_min, &Some(4));
+    assert_same(rt, &options.et_al_min, &Some(2));
+    assert_same(rt, &options.et_al_use_first, &Some(3));
     assert_text(rt, Some(options.sort_separator), Some(", "));
     drop(own);
     drop(around);

@@ -40,6 +40,22 @@ fn variable_in_node(variable: NumberOrPageVariable) -> Option<NumberOrPageVariab
 }
 
 #[test]
+fn numbers_and_pages_become_either(rt: HostRuntime) {
+    let edition = NumberVariable::Edition;
+    assert_same(
+        &rt,
+        &NumberOrPageVariable::from(edition),
+        &NumberOrPageVariable::Number(edition),
+    );
+    let page = PageVariable::Page;
+    assert_same(
+        &rt,
+        &NumberOrPageVariable::from(page),
+        &NumberOrPageVariable::Page(page),
+    );
+}
+
+#[test]
 fn a_number_may_be_of_pages(rt: HostRuntime) {
     let page = NumberOrPageVariable::Page(PageVariable::Page);
     assert_same(&rt, &variable_in_node(page), &Some(page));

@@ -2,12 +2,12 @@
 
 use crate::assertions::assert_text;
 use crate::csl_style_tests::locale_rows::{LocaleRows, SILENT, style_of};
-use csl_style::{OrdinalSlot, Style};
+use csl_style::{GrammarGender, OrdinalSlot, Style};
 use std::alloc::Global;
 use std::process::Abort;
 
-/// A style with a suffix and a word for 3, and with a default suffix, after a locale without ordinals.
-/// Of two suffixes for the same numbers, the first counts.
+/// A style with a suffix and two words for 3, and with a default suffix, after a locale without
+/// ordinals. Of two suffixes for the same numbers, the first counts.
 const ROWS: &[LocaleRows<'static>] = &[
     SILENT,
     LocaleRows {
@@ -16,6 +16,12 @@ const ROWS: &[LocaleRows<'static>] = &[
             (OrdinalSlot::Two(3), None, None, "rd"),
             (OrdinalSlot::Two(3), None, None, "d"),
             (OrdinalSlot::Long(3), None, None, "third"),
+            (
+                OrdinalSlot::Long(3),
+                None,
+                Some(GrammarGender::Feminine),
+                "terza",
+            ),
         ],
         ..SILENT
     },
@@ -52,6 +58,8 @@ fn assert_all(rt: &impl Abort, style: &Style) {
 fn assert_style(rt: &impl Abort, alloc: Global) {
     let style = style_of(rt, alloc, ROWS);
     assert_all(rt, &style);
+    let word = style.ordinals().word(3, Some(GrammarGender::Feminine));
+    assert_text(rt, word, Some("terza"));
     drop(style);
 }
 

@@ -223,6 +223,7 @@ fn other_names_of_variables(rt: HostRuntime) {
     assert_same(&rt, &Text::from_name("volume"), &None);
     assert_same(&rt, &Quantity::from_name("page"), &None);
     assert_same(&rt, &PageVariable::from_name("page-first"), &None);
+    assert_same(&rt, &PageVariable::from_name("pages"), &None);
     assert_same(&rt, &DateVariable::from_name("event"), &None);
     assert_same(&rt, &Role::from_name("title"), &None);
 }

@@ -13,10 +13,15 @@ fn cyclic(rt: &impl Abort, alloc: Global) -> Error {
     Error::from(StyleError::CyclicMacro(name))
 }
 
-/// Asserts the text of an error.
-fn assert_text_of(rt: &impl Abort, alloc: Global, error: Error, wanted: &str) {
+/// Asserts the text of an error of any crate.
+fn assert_shown<T: fmt::Display>(rt: &impl Abort, alloc: Global, error: &T, wanted: &str) {
     let text = format!(in alloc; "{error}");
     assert_text(rt, Some(text.expect(rt, "memory").as_str()), Some(wanted));
+}
+
+/// Asserts the text of an error.
+fn assert_text_of(rt: &impl Abort, alloc: Global, error: Error, wanted: &str) {
+    assert_shown(rt, alloc, &error, wanted);
 }
 
 #[test]
@@ -45,4 +50,18 @@ fn other_errors_and_their_texts(rt: HostRuntime) {
     assert_text_of(&rt, alloc, fmt::Error.into(), "a writer refused a text");
     let out_of_range = "month or day out of range";
     assert_text_of(&rt, alloc, Error::DateOutOfRange, out_of_range);
+}
+
+#[test]
+fn errors_of_the_crates_below_and_their_texts(rt: HostRuntime) {
+    let alloc = rt.alloc();
+    let wanted = "out of memory";
+    assert_shown(&rt, alloc, &Memory, wanted);
+    assert_shown(&rt, alloc, &NumericError::Memory, wanted);
+    assert_shown(&rt, alloc, &HtmlError::Memory, wanted);
+    assert_shown(&rt, alloc, &RenderError::Memory, wanted);
+    assert_shown(&rt, alloc, &NumericError::NotNumeric, "not numeric");
+    assert_shown(&rt, alloc, &HtmlError::NotHtml, "not html");
+    let failed = "the context had failed before";
+    assert_shown(&rt, alloc, &RenderError::Failed, failed);
 }

@@ -48,13 +48,14 @@ fn assert_children_copy(rt: &impl Abort, alloc: Global, source: &str) {
     assert_tree(rt, alloc, copy, source, source);
 }
 
-/// One of four metas, by its index.
+/// One of five metas, by its index.
 fn meta(rt: &impl Abort, alloc: Global, row: usize) -> ElemMeta {
     match row {
         0 => ElemMeta::Entry(3),
         1 => ElemMeta::Label,
         2 => ElemMeta::Name(NameVariable::Translator, 3),
-        _ => names(rt, alloc, "Knuth", NameVariable::Author),
+        3 => ElemMeta::Text,
+        _ => names(rt, alloc, "Knuth", NameVariable::Editor),
     }
 }
 
@@ -76,12 +77,13 @@ fn is_copied(rt: &impl Abort, alloc: Global, row: usize) -> bool {
 
 #[test]
 fn copies_are_equal(rt: HostRuntime) {
-    for source in [MIXED, "é"] {
+    for source in [MIXED, "é", "/é"] {
         assert_copies(&rt, rt.alloc(), source);
         assert_children_copy(&rt, rt.alloc(), source);
     }
     assert_children_copy(&rt, rt.alloc(), "@/x|https://x.y/?a=1&b=2 $$m$ #7 ~");
-    for row in 0..4 {
+    assert_children_copy(&rt, rt.alloc(), "_ ( _ ) a");
+    for row in 0..5 {
         assert!(rt; is_copied(&rt, rt.alloc(), row), "in row {row}");
     }
 }

@@ -124,6 +124,10 @@ fn white_space_is_no_content(rt: HostRuntime) {
         (MIXED, false, true, 5),
         ("( ~\u{3000}\n )", false, false, 5),
         ("( _ )block", true, false, 0),
+        ("( _ ):entry", true, false, 0),
+        // A link is content, whatever its text.
+        ("@_|https://x.y/", true, true, 0),
+        ("@~|https://x.y/", false, true, 1),
     ] {
         let wanted = Asked {
             is_empty,

@@ -114,3 +114,12 @@ fn a_stack_keeps_its_last_item(rt: HostRuntime) {
         &5,
     );
 }
+
+#[test]
+fn the_last_odd_item_is_replaced(rt: HostRuntime) {
+    let mut stack = one_to_four(&rt, rt.alloc());
+    assert_same(&rt, stack.last(), &4);
+    assert_same(&rt, &replace_last_odd(&mut stack, 30), &true);
+    assert_items(&rt, &items(&rt, rt.alloc(), &stack), &[1, 2, 30, 4]);
+    drop(stack);
+}

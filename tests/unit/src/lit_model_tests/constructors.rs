@@ -52,12 +52,14 @@ fn persons(rt: &impl Abort, alloc: Global, name: &str) -> Vec<Person> {
 fn url(rt: &impl Abort, alloc: Global, address: &str) -> QualifiedUrl {
     QualifiedUrl {
         value: Url::parse(alloc, address).expect(rt, "an address"),
-        visit_date: None,
+        visit_date: Some(Date::of_year(2015)),
     }
 }
 
 fn publisher(rt: &impl Abort, alloc: Global, name: &str) -> Publisher {
-    Publisher::named(alloc, name).expect(rt, "memory")
+    let mut publisher = Publisher::named(alloc, name).expect(rt, "memory");
+    publisher.location = Some(FormatString::plain(alloc, "London").expect(rt, "memory"));
+    publisher
 }
 
 fn number(number: i32) -> MaybeTyped<Numeric> {
