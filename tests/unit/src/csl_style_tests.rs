@@ -15,8 +15,6 @@ mod of_citation;
 mod options_of_scopes;
 mod style;
 mod style_ordinals;
-mod taxonomy;
 mod term;
 mod term_names;
-mod variable_names;
 mod variable_set;
