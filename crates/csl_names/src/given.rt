@@ -77,7 +77,11 @@ impl NameStyle<'_> {
             None => ctx.ensure_live(),
             Some(given) => match self.initialize_with {
                 None => push_word(ctx, given.as_str(), self.given.formatting),
-                Some(text) => self.push_short(ctx, person, form, text),
+                Some(text) => {
+                    // Each byte of the name may be an initial.
+                    ctx.charge(given.len().saturating_mul(text.len()))?;
+                    self.push_short(ctx, person, form, text)
+                }
             },
         }
     }

@@ -10,7 +10,7 @@ ghost use Rattle.csl_tree.specs.Content.{◌++>◌, elem_content};
 ghost use Rattle.csl_tree.specs.Tokens.{meta_of};
 ghost use Rattle.csl_entry.specs.Answers.{cow_view};
 ghost use Rattle.csl_context.specs.Texts.{text_in};
-ghost use Rattle.csl_context.specs.Context.{Runs, IsInnermost, close_part_by, with_content};
+ghost use Rattle.csl_context.specs.Context.{Runs, same_context, IsInnermost, close_part_by, with_content};
 ghost use Rattle.csl_names.specs.NamesNode as spec;
 ghost use Rattle.csl_names.specs.NamesLists.{list_of};
 
@@ -36,6 +36,54 @@ fn persons_of(alloc: Global, persons: &[Cow<'_, Person>]) -> Result<Vec<Person>,
         copies.push(person.as_ref().clone(alloc)?)?;
     }
     Ok(copies)
+}
+
+/// The bytes of a text, if there is one.
+fn len_of(text: &Option<String>) -> usize {
+    match text {
+        Some(text) => text.len(),
+        None => 0,
+    }
+}
+
+/// The bytes of a person's texts.
+fn person_len(person: &Person) -> usize {
+    person
+        .name
+        .len()
+        .saturating_add(len_of(&person.given_name))
+        .saturating_add(len_of(&person.prefix))
+        .saturating_add(len_of(&person.suffix))
+        .saturating_add(len_of(&person.alias))
+}
+
+/// The bytes of the texts of persons.
+fn persons_len(persons: &[Cow<'_, Person>]) -> usize {
+    let mut len: usize = 0;
+    for person in persons {
+        len = len.saturating_add(person_len(person.as_ref()));
+    }
+    len
+}
+
+/// The bytes of the texts of all persons of lists.
+fn lists_len(lists: &[PersonList<'_>]) -> usize {
+    let mut len: usize = 0;
+    for list in lists {
+        len = len.saturating_add(persons_len(&list.0));
+    }
+    len
+}
+
+/// Takes the bytes of all persons of lists from what the context may write, before they are copied.
+fn charge_persons<T>(ctx: &mut Context<'_, T>, lists: &[PersonList<'_>]) -> Result<(), RenderError>
+    ensures { Runs same_context result ctx.old ctx.new }
+{
+    if !ctx.is_limited() {
+        // Without a limit nobody need know them.
+        return ctx.ensure_live();
+    }
+    ctx.charge(lists_len(lists))
 }
 
 /// The meta of a names node's box: the persons with their variables.
@@ -157,6 +205,7 @@ pub fn commit_names<T>(
         (spec.lists_meta (map list_of lists.now)) c))
         result ctx.old ctx.new }
 {
+    charge_persons(ctx, lists)?;
     let meta = ctx.attempt(lists_meta(ctx.alloc(), lists))?;
     ctx.commit_elem(mark, display, Some(meta))
 }
