@@ -326,7 +326,8 @@ class TrialTests:
         self.row("no control characters", set(re.findall("[\0-\x1f\x7f-\x9f\u202e\u2028]", text)), {"\n"})
 
     def test_missing(self) -> None:
-        """A macro and a term that are missing are told, and so is a layout that is too large."""
+        """A macro and a term that are missing are told, and so is a style that is too large, if only for
+        a sort key."""
         path = self.file("missing.rows", 'base (citation title (text macro=no) (text term=in))\n')
         told = [f"{path}: the {it} is missing: it prints nothing" for it in ("macro `no`", "term `in`")]
         self.row("what is missing", self.faults(path)[2], told)
@@ -335,8 +336,12 @@ class TrialTests:
         self.row("what is doubled", self.faults(path)[2], told)
         twice = (f"(text macro=m{it}) (text macro=m{it})" for it in range(1, 41))
         macros = " ".join(f"(macro name=m{place} {it})" for place, it in enumerate(twice))
-        path = self.file("large.rows", f"base {macros} (macro name=m40 title) (citation (text macro=m0))\n")
-        self.row("a large layout", self.faults(path), (1, "", [f"{path}: the layout is too large: citation"]))
+        macros += " (macro name=m40 title)"
+        path = self.file("large.rows", f"base {macros} (citation (text macro=m0))\n")
+        self.row("a large layout", self.faults(path), (1, "", [f"{path}: the style is too large"]))
+        keys = "(citation title) (sort citation (key macro=m0))"
+        path = self.file("large_key.rows", f"base {macros} {keys}\n")
+        self.row("a large sort key", self.faults(path), (1, "", [f"{path}: the style is too large"]))
 
     def test_hostile_sizes(self) -> None:
         """Files that cost the most, each of which may cost five seconds of a core."""

@@ -37,14 +37,38 @@ pub struct Row<'r> {
     pub cite: &'r str,
 }
 
+/// Whether the whole style is within these limits, and not if one of them is less.
+fn are_least(
+    alloc: Global,
+    style: &Style,
+    (rendered, size, depth): (u64, u64, usize),
+) -> Result<bool, Fault> {
+    Ok(
+        style.all_within(alloc, rendered, size, depth)?
+            && !style.all_within(alloc, rendered.saturating_sub(1), size, depth)?
+            && !style.all_within(alloc, rendered, size.saturating_sub(1), depth)?
+            && !style.all_within(alloc, rendered, size, depth.saturating_sub(1))?,
+    )
+}
+
 /// The answer of a style, whatever the layout is.
-fn answer_of_style<'s>(style: &'s Style, question: Question, scope: Scope) -> Option<&'s str> {
-    match question {
-        Question::MissingMacro => Some(style.missing_macro().unwrap_or("")),
-        Question::Suffix if style.renders_year_suffix_implicitly(scope) => Some("implicit"),
-        Question::Suffix => Some("explicit"),
-        _ => None,
-    }
+fn answer_of_style<'s>(
+    alloc: Global,
+    style: &'s Style,
+    question: Question,
+    scope: Scope,
+) -> Result<Option<&'s str>, Fault> {
+    let answer = match question {
+        Question::MissingMacro => style.missing_macro().unwrap_or(""),
+        Question::Suffix if style.renders_year_suffix_implicitly(scope) => "implicit",
+        Question::Suffix => "explicit",
+        Question::AllWithin(rendered, size, depth) => {
+            let are_least = are_least(alloc, style, (rendered, size, depth))?;
+            if are_least { "yes" } else { "no" }
+        }
+        _ => return Ok(None),
+    };
+    Ok(Some(answer))
 }
 
 impl<'r> Row<'r> {
@@ -80,7 +104,7 @@ impl<'r> Row<'r> {
         let work = self.work(self.entry)?;
         let scope = forms.choice("scope")?.unwrap_or(Scope::Citation);
         let mut words = String::new(self.alloc);
-        if let Some(answer) = answer_of_style(style, question, scope) {
+        if let Some(answer) = answer_of_style(self.alloc, style, question, scope)? {
             words.push_str(answer)?;
             return Ok(words);
         }

@@ -22,12 +22,12 @@ use csl::{
 };
 use std::alloc::Global;
 
-/// The most nodes that one rendering of a layout may go through, and the most in all branches.
+/// The most nodes that one rendering with a style may go through, and the most in all branches.
 const NODES: u64 = 2_000;
 
 const ALL_NODES: u64 = 20_000;
 
-/// How deep the nodes of a layout may be.
+/// How deep the nodes of a layout may be, with those of the macros that it calls.
 const DEPTH: usize = 64;
 
 /// What the requests so far have set.
@@ -197,13 +197,13 @@ impl Items {
         let alloc = self.alloc;
         let forms = Forms::read(alloc, text)?;
         let style = style(&forms)?;
+        if !style.all_within(alloc, NODES, ALL_NODES, DEPTH)? {
+            return Err(Fault::Wrong("the style is too large"));
+        }
         let citation = Some(("citation", Scope::Citation, style.citation()));
         let bibliography = style.bibliography();
         let bibliography = bibliography.map(|it| ("bibliography", Scope::Bibliography, it));
         for (name, scope, layout) in [citation, bibliography].into_iter().flatten() {
-            if !style.rendered_within(layout, NODES, ALL_NODES, DEPTH) {
-                return Err(Fault::of_word(alloc, "the layout is too large", name));
-            }
             if let Some(inside) = around(&forms, scope) {
                 self.is_aligned = inside.value("second-field-align").is_some();
                 reply_around(rt, &style, (name, layout), inside)?;

@@ -30,6 +30,9 @@ pub enum Question {
     MissingMacro,
     /// Whether the year suffix is rendered where no text asks for it.
     Suffix,
+    /// Whether the whole style is within these limits, each the least: what one rendering goes through,
+    /// its size and its depth.
+    AllWithin(u64, u64, usize),
     /// A question about a layout and the macros that it calls.
     OfLayout(OfLayout),
     /// A question about a tree or HTML.
@@ -93,13 +96,13 @@ fn limit(alloc: Global, word: &str) -> Result<u64, Fault> {
 }
 
 /// The limits of one rendering: of its size, or of its size, of all branches and of the depth.
-fn rendered(alloc: Global, rest: &str) -> Result<OfLayout, Fault> {
+fn limits(alloc: Global, rest: &str) -> Result<(u64, u64, usize), Fault> {
     let mut words = rest.split(' ');
     let size = limit(alloc, words.next().unwrap_or(""))?;
     match (words.next(), words.next(), words.next()) {
-        (None, _, _) => Ok(OfLayout::Rendered(size, u64::MAX, usize::MAX)),
+        (None, _, _) => Ok((size, u64::MAX, usize::MAX)),
         (Some(all), Some(depth), None) => match depth.parse::<usize>() {
-            Ok(depth) => Ok(OfLayout::Rendered(size, limit(alloc, all)?, depth)),
+            Ok(depth) => Ok((size, limit(alloc, all)?, depth)),
             Err(_) => Err(Fault::of_word(alloc, "not a number", depth)),
         },
         _ => Err(Fault::of_word(alloc, "one limit or three", rest)),
@@ -119,18 +122,29 @@ fn of_layout<'l>(
         "size" => (OfLayout::Size, rest),
         "depth" => (OfLayout::Depth, rest),
         "above" => (OfLayout::Above(limit(alloc, rest)?), "yes"),
-        "rendered" => (rendered(alloc, rest)?, "yes"),
+        "rendered" => {
+            let (size, all, depth) = limits(alloc, rest)?;
+            (OfLayout::Rendered(size, all, depth), "yes")
+        }
         _ => return Ok(None),
     };
     Ok(Some(found))
 }
 
 /// The question of a line about a style, a work or a tree, and the wanted answer.
-fn of_one<'l>(word: &str, rest: &'l str) -> Option<(Question, &'l str)> {
+fn of_one<'l>(
+    alloc: Global,
+    word: &str,
+    rest: &'l str,
+) -> Result<Option<(Question, &'l str)>, Fault> {
     let found = match word {
         "refused" => (Question::Refused, rest),
         "missing-macro" => (Question::MissingMacro, rest),
         "year-suffix" => (Question::Suffix, rest),
+        "all-within" => {
+            let (size, all, depth) = limits(alloc, rest)?;
+            (Question::AllWithin(size, all, depth), "yes")
+        }
         "answers" => (Question::Answers, rest),
         "alike" | "unlike" => (Question::Alike(word == "alike"), rest),
         "same" | "other" => (Question::Same(word == "same"), rest),
@@ -139,9 +153,9 @@ fn of_one<'l>(word: &str, rest: &'l str) -> Option<(Question, &'l str)> {
         "leaf" => (Question::OfTree(OfTree::Leaf), unquoted(rest)),
         "found" => (Question::OfTree(OfTree::Found), rest),
         "not-html" => (Question::NotHtml, rest),
-        _ => return None,
+        _ => return Ok(None),
     };
-    Some(found)
+    Ok(Some(found))
 }
 
 /// The question of a line about nodes and a cite, and the wanted answer.
@@ -183,5 +197,5 @@ pub fn question<'l>(
     if let Some((found, wanted)) = of_layout(alloc, word, rest)? {
         return Ok(Some((Question::OfLayout(found), wanted)));
     }
-    Ok(of_one(word, rest))
+    of_one(alloc, word, rest)
 }

@@ -1,20 +1,21 @@
 //! Strangers' styles with long lists: of children of names, of parts of a localized date, of ordinals
 //! and of locales. Where a size leaves such a list out, or each lookup goes through it, two sizes
-//! multiply. A work whose name ends in `_asked` renders nothing: it returns 1 if the citation layout is
-//! within the limits that `docs/SAFETY.md` gives, and 0 if not.
+//! multiply. A work whose name ends in `_asked` renders nothing: it returns 1 if the style is within
+//! the limits that `docs/SAFETY.md` gives, and 0 if not.
 
 use crate::bench::entry::article;
+use crate::bench::literature::repetition;
 use crate::bench::render::text_size;
-use crate::bench::strangers::{DEPTH, ITEMS, parts_named, repeated, room, size_within};
+use crate::bench::strangers::{DEPTH, ITEMS, allowed, parts_named, repeated, room, size_within};
 use crate::bench::styles::call;
 use crate::error::WorkError;
 use crate::nodes::{style, title};
 use csl::literature::{MaybeTyped, Numeric};
 use csl::style::{
     Choose, ChooseBranch, CslMacro, Date, DateForm, DatePart, DatePartName, DateVariable, EtAl,
-    Layout, LayoutRenderingElement, Locale, Name, NameVariable, Names, NamesChild, Number,
-    NumberForm, NumberVariable, OrdinalMatch, OrdinalSlot, OrdinalTerm, Style, StyleSettings,
-    Substitute, VariablelessLabel,
+    GrammarGender, Layout, LayoutRenderingElement, Locale, Name, NameVariable, Names, NamesChild,
+    Number, NumberForm, NumberOrPageVariable, NumberVariable, OrdinalMatch, OrdinalSlot,
+    OrdinalTerm, Style, StyleSettings, Substitute, Term, TermEntry, TermForm, VariablelessLabel,
 };
 use std::alloc::Global;
 
@@ -203,6 +204,52 @@ pub fn locale_ordinals(alloc: Global, size: usize) -> Result<usize, WorkError> {
     in_edition(alloc, vec![in alloc; locale]?, size)
 }
 
+/// A locale of an ordinal for each slot from 0 to 99, each match and each gender, 1,200 in all. The term
+/// of an edition is feminine.
+fn many_ordinals(alloc: Global) -> Result<Locale, WorkError> {
+    let mut locale = Locale::new(alloc);
+    let matches = [
+        Some(OrdinalMatch::WholeNumber),
+        Some(OrdinalMatch::LastTwoDigits),
+        Some(OrdinalMatch::LastDigit),
+        None,
+    ];
+    let genders = [
+        Some(GrammarGender::Masculine),
+        None,
+        Some(GrammarGender::Feminine),
+    ];
+    for slot in 0..100 {
+        for matching in matches {
+            for gender in genders {
+                let mut term = ordinal(alloc, OrdinalSlot::Two(slot), matching, "th")?;
+                term.gender = gender;
+                locale.ordinals.push(term)?;
+            }
+        }
+    }
+    let edition = NumberOrPageVariable::Number(NumberVariable::Edition);
+    let mut term = TermEntry::new(alloc, Term::from(edition), TermForm::Long, "edition")?;
+    term.gender = Some(GrammarGender::Feminine);
+    locale.terms.push(term)?;
+    Ok(locale)
+}
+
+/// Renders editions of `size` numbers as ordinals that fill the layout for strangers, in a locale of
+/// 1,200 ordinals, and counts the bytes of the plain text.
+pub fn ordinal_parts(alloc: Global, size: usize) -> Result<usize, WorkError> {
+    let editions = ordinal_editions(alloc, 2_000)?;
+    let locales = vec![in alloc; many_ordinals(alloc)?]?;
+    let style = localized_style(alloc, Vec::new(alloc), editions, locales)?;
+    if allowed(alloc, &style)? == 0 {
+        return Err(WorkError::Unexpected("above the limits"));
+    }
+    let mut article = article(alloc, 1)?;
+    let text = repetition(alloc, "1007, ", size.saturating_sub(1), "1007")?;
+    article.edition = Some(MaybeTyped::Typed(Numeric::parse(alloc, text.as_str())?));
+    text_size(alloc, &style, &article)
+}
+
 /// `size` empty locales.
 fn no_locales(alloc: Global, size: usize) -> Result<Vec<Locale>, WorkError> {
     let mut locales = Vec::new(alloc);
@@ -241,12 +288,10 @@ pub fn empty_locales_asked(alloc: Global, size: usize) -> Result<usize, WorkErro
     }
     let nodes = vec![in alloc; choose.into()]?;
     let locales = locales_before_a_date(alloc, size)?;
-    Ok(allowed(&localized_style(alloc, Vec::new(alloc), nodes, locales)?))
-}
-
-/// 1 if a style's citation layout is within the limits for strangers, else 0.
-fn allowed(style: &Style) -> usize {
-    usize::from(style.rendered_within(style.citation(), 2_000, 20_000, DEPTH))
+    allowed(
+        alloc,
+        &localized_style(alloc, Vec::new(alloc), nodes, locales)?,
+    )
 }
 
 /// Asks about [`CALLS`] calls of a macro of one node, with these locales.
@@ -256,7 +301,7 @@ fn calls_asked(
     locales: Vec<Locale>,
 ) -> Result<usize, WorkError> {
     let (macros, calls) = called(alloc, node, CALLS)?;
-    Ok(allowed(&localized_style(alloc, macros, calls, locales)?))
+    allowed(alloc, &localized_style(alloc, macros, calls, locales)?)
 }
 
 /// Asks about calls of a macro of names with `size` et al.

@@ -2,7 +2,8 @@
 
 use crate::bench::entry::article;
 use crate::bench::render::{named_count, suppressed_size, text_size};
-use crate::bench::styles::{branching, call, linked};
+use crate::bench::strangers::allowed;
+use crate::bench::styles::{branching, call, linked, numbered};
 use crate::error::WorkError;
 use crate::nodes::{names_or, style, title};
 use csl::style::{
@@ -127,10 +128,25 @@ pub fn doubling_size(alloc: Global, size: usize) -> Result<usize, WorkError> {
     Ok(expanded_size(&doubling_style(alloc, size)?) as usize)
 }
 
+/// Asks about a style whose citation prints the title, with `size` macros for sort keys, each of which
+/// calls the next twice.
+pub fn sort_key_asked(alloc: Global, size: usize) -> Result<usize, WorkError> {
+    let macros = linked(alloc, size, 2, StandardVariable::Title.into())?;
+    allowed(alloc, &style(alloc, macros, vec![in alloc; title()]?)?)
+}
+
+/// Asks about such a style with 9 such macros, the nodes of the first of the size 1,532, and `size` more,
+/// each of which calls the first.
+pub fn macros_asked(alloc: Global, size: usize) -> Result<usize, WorkError> {
+    let mut macros = linked(alloc, 9, 2, StandardVariable::Title.into())?;
+    for number in 9..9 + size {
+        macros.push(numbered(alloc, number, vec![in alloc; call(alloc, 0)?]?)?)?;
+    }
+    allowed(alloc, &style(alloc, macros, vec![in alloc; title()]?)?)
+}
+
 /// Whether a layout of `size` macros, each of which calls the next in two branches of a choose, is
-/// within the limits for strangers: 1 or 0. Nothing is rendered. Of the branches the larger counts, but
-/// the question goes through all.
+/// within the limits for strangers: 1 or 0. Nothing is rendered. Of the branches the larger counts.
 pub fn branching_size(alloc: Global, size: usize) -> Result<usize, WorkError> {
-    let style = first_of(alloc, branching(alloc, size)?)?;
-    Ok(usize::from(style.rendered_within(style.citation(), 2_000, 20_000, 64)))
+    allowed(alloc, &first_of(alloc, branching(alloc, size)?)?)
 }

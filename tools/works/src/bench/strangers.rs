@@ -39,6 +39,11 @@ const USUAL: &str = "a macro of many of its sort ";
 /// The same, for names that all have one hash where a hash map has the kit's seed.
 const COLLIDING: &str = "x5F73gs_U.LWl3qDDUwmVmkM";
 
+/// 1 if the whole style is within the limits for strangers, else 0.
+pub fn allowed(alloc: Global, style: &Style) -> Result<usize, WorkError> {
+    Ok(usize::from(style.all_within(alloc, 2_000, 20_000, DEPTH)?))
+}
+
 /// A style, if its citation layout is within the limits.
 fn limited(style: Style, size: usize) -> Result<Style, WorkError> {
     if style.expanded_within(style.citation(), size as u64, DEPTH) {

@@ -19,7 +19,7 @@ pub fn call(alloc: Global, number: usize) -> Result<LayoutRenderingElement, Work
 }
 
 /// The macro with this number, of these nodes.
-fn numbered(
+pub fn numbered(
     alloc: Global,
     number: usize,
     nodes: Vec<LayoutRenderingElement>,
