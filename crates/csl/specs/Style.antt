@@ -4,6 +4,7 @@ pub mod contracts
 pub use Rattle.csl_elements.specs.LocatorNames
 pub use Rattle.csl_elements.specs.TermNames
 pub use Rattle.csl_elements.specs.VariableNames
+pub use Rattle.csl_elements.specs.VariableSet
 pub use Rattle.csl_style.specs.CallGraph
 pub use Rattle.csl_style.specs.Constructors
 pub use Rattle.csl_style.specs.Style
