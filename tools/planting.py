@@ -203,6 +203,7 @@ def built(crate: str, listed: str, program: str, is_test: bool,
     objects = list(kept.objects.values())
     if not objects:
         named = name_at(checkout, names, "".join(said))
-        raise Failure(f"{name} is not built with the wrong bodies: {named or said[-1:]}")
+        why = "".join([line for line in said if "error" in line][:1] or said[-1:]).strip()
+        raise Failure(f"{name} is not built with the wrong bodies: {named} {why}")
     link(program, [objects[-1], f"{room}/chosen_body.o"])
     return run.returncode
