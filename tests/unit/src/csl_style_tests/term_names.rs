@@ -1,9 +1,10 @@
-//! The names of locators and terms, as CSL 1.0.2 has them in Locators and in Appendix II.
+//! The names of locators and terms, as CSL 1.0.2 has them in Locators and in Appendix II, and names
+//! that no variable and no kind has.
 
 use crate::assertions::{assert_of, assert_same};
 use csl_style::{
-    Locator, NameVariable as Role, NumberVariable as Quantity, OtherTerm as Word, PageVariable,
-    Season, Term,
+    Kind, Locator, NameVariable as Role, NumberVariable as Quantity, OtherTerm as Word,
+    PageVariable, Season, Term, Variable,
 };
 
 /// The kinds of locators by their names.
@@ -169,4 +170,30 @@ fn terms_by_their_names(rt: HostRuntime) {
     assert_same(&rt, &volume.name(), &Some("volume"));
     let page = Term::Page(PageVariable::Page);
     assert_same(&rt, &page.name(), &Some("page"));
+}
+
+/// A name, and the variable of this name.
+static OTHER_NAMES: [(&str, Option<Variable>); 5] = [
+    // Appendix IV has a hyphen that the term and published styles do not have.
+    (
+        "editortranslator",
+        Some(Variable::Name(Role::EditorTranslator)),
+    ),
+    // Capitals, hyphens and the last letter count.
+    ("doi", None),
+    ("archive-location", None),
+    ("pages", None),
+    ("", None),
+];
+
+#[test]
+fn other_names_of_variables_and_kinds(rt: HostRuntime) {
+    let rows: &[(&'static str, Option<Variable>)] = &OTHER_NAMES;
+    for (name, wanted) in rows {
+        assert_of(&rt, &Variable::from_name(*name), wanted, *name);
+    }
+    let both = Role::from_name("editortranslator");
+    assert_same(&rt, &both, &Some(Role::EditorTranslator));
+    assert_same(&rt, &PageVariable::from_name("pages"), &None);
+    assert_same(&rt, &Kind::from_name("comic"), &None);
 }
