@@ -22,8 +22,8 @@ pub use csl_entry::{
     SpecialForm, same_answers,
 };
 pub use csl_languages::{
-    Language, brazilian_portuguese, british_english, dutch, english, french, german, italian, japanese, polish,
-    simplified_chinese, spanish,
+    Language, brazilian_portuguese, british_english, dutch, english, french, german, italian,
+    japanese, polish, simplified_chinese, spanish,
 };
 pub use csl_names::{write_name, write_name_list};
 pub use csl_render as render;
