@@ -132,10 +132,10 @@ LONG_NAMES = ["x" * 1_000_000 + str(it) for it in range(10)]
 CHAIN = " ".join(f"(macro name=m{it} (text macro=m{it + 1}))" for it in range(1_800))
 DEEP, WIDE = "lists are more than 200 levels deep", "a list has more than 100 attributes"
 COSTLY = [
-    (f"{CHAIN} (citation (text macro=m0))", "the layout is too large: citation"),
+    (f"{CHAIN} (citation (text macro=m0))", "the style is too large"),
     (f"{CHAIN} {CHAIN}", f"as rows it has {LARGE}"),
     (f"(citation '{'a' * 1_000_000}')", "more than 1 MB: leave only the line `base`"),
-    (f"(citation {'(group ' * 199}title{')' * 200}", "the layout is too large: citation"),
+    (f"(citation {'(group ' * 199}title{')' * 200}", "the style is too large"),
     (f"(citation {'(group ' * 200}title{')' * 201}", DEEP),
     (f"(citation {'(group ' * 9_000}", DEEP),
     (f"(citation {' '.join(f'a{it}=' for it in range(9_000))})", WIDE),
