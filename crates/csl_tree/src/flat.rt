@@ -343,7 +343,7 @@ impl FlatTree {
         ensures ok { OnOk result (self.new ≡ open_part self.old) }
         ensures err { OnErr result (self.new ≡ self.old) }
     {
-        if self.children.is_empty() {
+        if self.children.capacity() == 0 {
             self.children.reserve(ROOM_FOR_CHILDREN)?;
             self.around.reserve(ROOM_FOR_MARKS)?;
         }
