@@ -24,6 +24,7 @@ pub use Rattle.csl_style.specs.NamesOptions
 pub use Rattle.csl_style.specs.Named
 pub use Rattle.csl_style.specs.NamedSet
 pub use Rattle.csl_style.specs.Names
+pub use Rattle.csl_style.specs.NamesOf
 pub use Rattle.csl_style.specs.NamesParts
 pub use Rattle.csl_style.specs.Node
 pub use Rattle.csl_style.specs.Taxonomy
@@ -32,5 +33,7 @@ pub use Rattle.csl_style.specs.OverCalls
 pub use Rattle.csl_style.specs.Scopes
 pub use Rattle.csl_style.specs.Size
 pub use Rattle.csl_style.specs.Term
+pub use Rattle.csl_style.specs.Tested
+pub use Rattle.csl_style.specs.Told
 pub use Rattle.csl_style.specs.View
 pub use Rattle.csl_style.specs.YearSuffix

@@ -32,7 +32,7 @@ pub use csl_render::{
     render_pair, sort_key,
 };
 pub use csl_style as style;
-pub use csl_style::{Locale, Scope, Style, StyleError, named_by};
+pub use csl_style::{Locale, Scope, Style, StyleError, named_beside, named_by, named_by_tests};
 pub use csl_tree as tree;
 pub use csl_tree::{BufWriteFormat, ElemChildren, HtmlError, leaf_text_of_html};
 pub use error::Error;

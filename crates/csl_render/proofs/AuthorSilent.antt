@@ -33,7 +33,7 @@ use Rattle.csl_nodes.specs.Text.{RenderOutput, render_output, then_output}
 use Rattle.csl_render.specs.Cites.{AgreeButForAuthors}
 use Rattle.csl_render.specs.Names.{author, has_variable, names_or_substitute_info, in_substitute, suppressing_from, boxed_substitute, lists_output}
 use Rattle.csl_render.specs.Pair.{with_answers}
-use Rattle.csl_render.specs.Tested.{tested_in_node, tested_in_nodes, tested_in_branches, tested_in_substitutes}
+use Rattle.csl_style.specs.Tested.{tested_in_node, tested_in_nodes, tested_in_branches, tested_in_substitutes}
 use Rattle.csl_render.specs.Tree.{is_group, info, nodes_info, branches_info, substitute_info, shows, any_shows, branches_show, substitute_shows, names_output, node_output, nodes_output, delimited_output, branches_output, output_until_text, substitute_output, delimited_child_output, macro_output, in_macro, group_output, in_group, layout_output}
 use Rattle.csl_render.proofs.Looks.{Free}
 use Rattle.csl_render.proofs.AlikeNodes.{lists_state_alike, holds_alike, shows_alike, info_alike, tree_alike, layout_alike}

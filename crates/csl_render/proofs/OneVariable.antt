@@ -33,7 +33,8 @@ use Rattle.csl_nodes.specs.Number.{shows_own, presence_info, number_info, option
 use Rattle.csl_nodes.specs.Usage.{Info, no_info, should_render_group, info_union, as_child_info, without_group_flag, group_info, macro_info}
 use Rattle.csl_nodes.specs.Text.{RenderOutput, render_output, then_output, same_variable, resolved_variable, resolved_text, resolved_info, calls, resolved_content, text_output}
 use Rattle.csl_render.specs.Laws.{OneVariableTellsNoOther}
-use Rattle.csl_render.specs.Told.{has_alone, names_told, told_in_node, told_in_nodes, told_in_branches, told_in_substitutes}
+use Rattle.csl_style.specs.NamesOf.{has_alone}
+use Rattle.csl_style.specs.Told.{names_if, names_told, told_in_node, told_in_nodes, told_in_branches, told_in_substitutes}
 use Rattle.csl_render.specs.Names.{has_variable, substitute_has_names_of, refuses_alone, names_or_substitute_info, names_info, in_substitute, suppressing_from, lists_or_substitute}
 use Rattle.csl_render.specs.Pair.{with_answers}
 use Rattle.csl_render.specs.Tree.{is_group, info, nodes_info, branches_info, substitute_info, names_output, node_output, nodes_output, delimited_output, branches_output, output_until_text, substitute_output, delimited_child_output, macro_output, in_macro, group_output, in_group, layout_output}
@@ -84,7 +85,7 @@ module _ (a b : Answers) where
 
   -- names that tell something tell their own variables
   lists_told : (only : Variable) (n : NamesNode) (is : ExpandedSubstitutes) → has_alone only n is ≡ true → SameNamedAnswers (names_told only n is) a b → SameNamedAnswers (named_in_names n) a b
-  lists_told only n is e h q k = h q (ap (λ (c : Bool). if c then named_in_names n q else false) e ∙ k)
+  lists_told only n is e h q k = h q (ap (λ (c : Bool). names_if c n q) e ∙ k)
 
   module _ (only : Variable) (own : SameNamedAnswers (the_variable only) a b) where
     own_variable : (x : Variable) → same_variable only x ≡ true → SameNamedAnswers (the_variable x) a b

@@ -21,8 +21,8 @@ use Rattle.csl_render.specs.Cites.{special_cite, whole_cite, named_by, AgreeButF
 use Rattle.csl_render.specs.Laws.{AlikeEntriesRenderAlike, RenderingKeepsState, SnapshotsRenderAlike, AnswersDecide, EqualSnapshotsCiteAlike, SuppressedAuthorsAreSilent, SortKeysOrderAsDates, SuppressedVariablesAreSilent, OneVariableTellsNoOther}
 use Rattle.csl_render.specs.Names.{author}
 use Rattle.csl_render.specs.Pair.{cite_input}
-use Rattle.csl_render.specs.Tested.{variables_of_tests}
-use Rattle.csl_render.specs.Told.{told_beside}
+use Rattle.csl_style.specs.Tested.{variables_of_tests}
+use Rattle.csl_style.specs.Told.{told_beside}
 use Rattle.csl_render.proofs.AuthorSilent.{author_silent}
 use Rattle.csl_render.proofs.AlikeNodes.{layout_alike, suppressed_are_silent}
 use Rattle.csl_render.proofs.OneVariable.{one_variable_alone}

@@ -26,8 +26,8 @@ use Rattle.csl_render.specs.Names.{author}
 use Rattle.csl_render.specs.Pair.{with_answers, AgreeButForSuppressed}
 use Rattle.csl_render.specs.Render.{Renderable, output_in}
 use Rattle.csl_render.specs.SortedDates.{SortsByDate}
-use Rattle.csl_render.specs.Tested.{tested_in_nodes}
-use Rattle.csl_render.specs.Told.{told_in_nodes}
+use Rattle.csl_style.specs.Tested.{tested_in_nodes}
+use Rattle.csl_style.specs.Told.{told_in_nodes}
 use Rattle.csl_render.specs.Tree.{layout_output}
 
 -- Entries that answer alike on what a layout names have equal contents and states by it.

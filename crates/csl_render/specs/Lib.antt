@@ -9,7 +9,5 @@ pub mod Render
 pub mod Pair
 pub mod Keeps
 pub mod Cites
-pub mod Tested
-pub mod Told
 pub mod SortedDates
 pub mod Laws

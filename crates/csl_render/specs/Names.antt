@@ -2,9 +2,6 @@
 -- dry run of a names node, the variables that it shows, and its content and state. Its lists and
 -- their content are those of `csl_names`.
 use Rattle.std.specs.Prelude.{ℕ, Bool, true, false, not, ◌&&◌, ◌||◌, List, [], Option, Some, None, is_some, if◌then◌else◌}
-use Rattle.std.specs.List.{list_any}
-use denote.Enum.Bare.{sameb}
-use Rattle.csl_elements.specs.contracts.taxonomy.NameVariable.{the_type}
 use Rattle.csl_elements.specs.declared.element.Names.{Names}
 use Rattle.csl_elements.specs.declared.taxonomy.NameVariable.{NameVariable}
 use Rattle.csl_elements.specs.declared.taxonomy.NameVariable.TheVariants.{Author}
@@ -13,7 +10,8 @@ use Rattle.csl_elements.specs.declared.taxonomy.Variable.TheVariants as variable
 use Rattle.csl_elements.specs.NamesOptions.{apply_options}
 use Rattle.csl_elements.specs.Names.{NamesNode}
 use Rattle.csl_elements.specs.NamesParts.{names_node, names_substitutes}
-use Rattle.csl_elements.specs.Node.{ExpandedNode, expanded_text, expanded_macro, unknown_macro, expanded_number, expanded_label, expanded_date, expanded_names, shorthand, expanded_choose, expanded_group, ExpandedNodes, no_expanded_nodes, expanded_node, ExpandedSubstitutes, no_expanded_substitutes, expanded_substitute, expand_substitutes}
+use Rattle.csl_elements.specs.Node.{ExpandedNodes, ExpandedSubstitutes, expand_substitutes}
+pub use Rattle.csl_style.specs.NamesOf.{has_variable, is_names_of, any_is_names_of, substitute_has_names_of}
 use Rattle.csl_tree.specs.Content.{elem_content}
 use Rattle.csl_entry.specs.declared.citation.cite.SpecialForm.{SpecialForm}
 use Rattle.csl_entry.specs.declared.citation.cite.SpecialForm.TheVariants.{VarOnly, OnlyFirstDate, OnlyYearSuffix, SuppressAuthor}
@@ -30,9 +28,6 @@ abbrev pub Macros : Type 0
 Macros = List ℕ → Option ExpandedNodes
 
 -- ---- variables
-
-abbrev pub has_variable : NameVariable → List NameVariable → Bool
-has_variable v vs = list_any (λ own. sameb the_type own v) vs
 
 abbrev pub author : Variable
 author = variable.Name Author
@@ -51,32 +46,10 @@ is_of_names (variable.Date v) vs = false
 -- the name, et-al and label of those names. They take over affixes, formatting, delimiter and
 -- options that they do not set. They have no substitute.
 
--- a names node of the variable
-abbrev pub is_names_of : NameVariable → ExpandedNode → Bool
-is_names_of v (expanded_text t d) = false
-is_names_of v (expanded_macro fs d) = false
-is_names_of v unknown_macro = false
-is_names_of v (expanded_number n) = false
-is_names_of v (expanded_label u l) = false
-is_names_of v (expanded_date n) = false
-is_names_of v (expanded_names n is) = has_variable v n.variables
-is_names_of v (shorthand written n) = has_variable v written.variables
-is_names_of v (expanded_choose cs) = false
-is_names_of v (expanded_group delimiter d fs) = false
-
-abbrev pub any_is_names_of : NameVariable → ExpandedNodes → Bool
-any_is_names_of v no_expanded_nodes = false
-any_is_names_of v (expanded_node f fs) = is_names_of v f || any_is_names_of v fs
-
 -- whether any of the chosen nodes, if any, is a names node of the variable
 abbrev pub choice_is_names_of : NameVariable → Option ExpandedNodes → Bool
 choice_is_names_of v None = false
 choice_is_names_of v (Some fs) = any_is_names_of v fs
-
--- whether a names node of the variable is directly in the first substitute
-abbrev pub substitute_has_names_of : NameVariable → ExpandedSubstitutes → Bool
-substitute_has_names_of v no_expanded_substitutes = false
-substitute_has_names_of v (expanded_substitute fs is) = any_is_names_of v fs
 
 -- the substitutes of a names node, with each macro in the place of its name
 abbrev pub expanded_substitutes_of : (List ℕ → Option ExpandedNodes) → Names → ExpandedSubstitutes

@@ -18,8 +18,8 @@ ghost use Rattle.csl_render.specs.Cites.{new_cite, sort_key_text, special_cite, 
 ghost use Rattle.csl_render.specs.Names.{author};
 ghost use Rattle.csl_render.specs.Pair.{cite_input, layout_output_from, output_of, Prints, PrintsSame};
 ghost use Rattle.csl_render.specs.SortedDates.{SortsByDate};
-ghost use Rattle.csl_render.specs.Tested.{variables_of_tests};
-ghost use Rattle.csl_render.specs.Told.{told_beside};
+ghost use Rattle.csl_style.specs.Tested.{variables_of_tests};
+ghost use Rattle.csl_style.specs.Told.{told_beside};
 
 use crate::pair::{Pair, are_alike_on, render_both, render_pair};
 use crate::render::RenderCsl;

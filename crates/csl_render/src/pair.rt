@@ -14,7 +14,7 @@ ghost use Rattle.csl_entry.specs.declared.citation.cite.SpecialForm.TheVariants 
 ghost use Rattle.csl_context.specs.State.{left_state_view};
 ghost use Rattle.csl_render.specs.Laws.{RenderingKeepsState, AlikeEntriesRenderAlike};
 ghost use Rattle.csl_render.specs.Pair.{cite_input, layout_output_from, AgreeButForSuppressed, Prints, PrintsSame};
-ghost use Rattle.csl_render.specs.Told.{told_beside};
+ghost use Rattle.csl_style.specs.Told.{told_beside};
 
 use crate::cites::render_from;
 use csl_context::{LeftState, RenderError, Rendered};

@@ -1,15 +1,15 @@
 -- A style within limits, from its parts: layouts of one text, and the sizes that are known.
-use Rattle.std.proofs.Common.{◌≡◌, ℕ, zero, suc, ◌+◌, ◌<◌, ◌≤◌, Bool, true, false, if◌then◌else◌, ◌≢◌, ◌⊎◌, List, [], ◌∷◌, length, replicate, slice_index_or, slice_set, Option, Some, None, IfSome, option_map, refl, sym, ap, subst, ◌∙◌, arith, inl, inr, get_or-set_same, get_or-set_other}
+use Rattle.std.proofs.Common.{◌≡◌, ℕ, zero, suc, ◌+◌, ◌<◌, ◌≤◌, Bool, true, false, if◌then◌else◌, ◌≢◌, ◌⊎◌, List, [], length, replicate, slice_index_or, slice_set, Option, Some, None, IfSome, option_map, refl, sym, ap, subst, ◌∙◌, arith, inl, inr, get_or-set_same, get_or-set_other}
 use Rattle.std.specs.Prelude.{MatchOption}
 use Rattle.std.proofs.lemmas.Bool.{cases_order}
-use Rattle.csl_elements.specs.Node.{Node, node, no_nodes, call, text, ExpandedNode, ExpandedNodes, LayoutNode, expand, expand_nodes, expand_layout, expand_call}
+use Rattle.csl_elements.specs.Node.{Node, call, ExpandedNode, ExpandedNodes, LayoutNode, expand, expand_nodes, expand_layout}
 use Rattle.csl_elements.specs.View.{Definition, definitions, view_layout}
 use Rattle.csl_style.specs.Style.{StyleParts}
 use Rattle.csl_style.specs.AllNodes.{called_name}
 use Rattle.csl_style.specs.CallGraph.{children_at}
-use Rattle.csl_style.specs.Expansion.{macro_index, macro_expansion, macro_body, IsAcyclic}
+use Rattle.csl_style.specs.Expansion.{macro_index, macro_expansion, IsAcyclic}
 use Rattle.csl_style.specs.Expanded.{macro_env}
-use Rattle.csl_style.specs.Depth.{nodes_depth, node_depth, layout_depth}
+use Rattle.csl_style.specs.Depth.{node_depth, layout_depth}
 use Rattle.csl_style.specs.Size.{counted, weights, weight, layout_size, rendered_size}
 use Rattle.csl_style.specs.AllWithin.{IsKnownSize, AreKnownSizes, AreNodesWithin, IsLayoutWithin, IsAllWithin, IsOneCall, IsOneVariable, NameMeans}
 use Rattle.csl_style.specs.declared.size.MacroSize.{MacroSize}

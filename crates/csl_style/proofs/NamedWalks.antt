@@ -14,13 +14,13 @@ use Rattle.csl_style.specs.AllNodes.{all_nodes, called_name}
 use Rattle.csl_style.specs.CallGraph.{call_of, children_at, own_calls}
 use Rattle.csl_style.specs.Expansion.{macro_index, macro_body, macro_expansion, expansion_to_depth}
 use Rattle.csl_style.specs.Cycles.{is_marked}
-use Rattle.csl_style.specs.Named.{named_in_nodes, named_in_macro}
-use Rattle.csl_style.specs.NamedWalk.{named_itself, called_nodes, AreMarked, IsCall, IsFirstCall}
+use Rattle.csl_style.specs.NamedWalk.{part_itself, part_in, called_nodes, AreMarked, IsCall, IsFirstCall}
+use Rattle.csl_style.specs.declared.named.Part.{Part}
 use Rattle.csl_style.proofs.AllNodesLaws.{called_cost, expansion_cost, costs, costs_append, all_cost}
 use Rattle.csl_style.proofs.Called.{place-is}
 use Rattle.csl_style.proofs.Marks.{none-marked, marked-before, still-marked}
 use Rattle.csl_style.proofs.Meanings.{body-none}
-use Rattle.csl_style.proofs.NamedNodes.{own_named, all_named, named_append, list_named}
+use Rattle.csl_style.proofs.NamedNodes.{in_macro, own_named, all_named, named_append, list_named}
 
 -- ---- sets, one item at a time
 
@@ -53,22 +53,22 @@ same_items a b f g = λ i q. same_bits (a q) (b q) (f q) (g q) i
 -- ---- what is left, and what is done
 
 -- all that a node names itself is named, and the macro that it calls is marked
-pub record IsDone (ds : List Definition) (named : NamedSet) (seen : List Bool) (n : Node) : Type 0 where
-  pub itself : Within (named_itself n) named
+pub record IsDone (part : Part) (ds : List Definition) (named : NamedSet) (seen : List Bool) (n : Node) : Type 0 where
+  pub itself : Within (part_itself part n) named
   pub calls : AreMarked seen (own_calls ds (called_name n))
 
 -- each node of a list is left or done
-abbrev pub Kept : List Definition → NamedSet → List Bool → List Node → List Node → Type 0
-Kept ds named seen left ns = (n : Node) → Contains ns n → Contains left n ⊎ IsDone ds named seen n
+abbrev pub Kept : Part → List Definition → NamedSet → List Bool → List Node → List Node → Type 0
+Kept part ds named seen left ns = (n : Node) → Contains ns n → Contains left n ⊎ IsDone part ds named seen n
 
 -- The walk named what the layout names, and no more. The nodes of the layout and of each marked macro are
 -- left or done.
-pub record IsWalk (ds : List Definition) (ns : Nodes) (named : NamedSet) (seen : List Bool) (left : List Node) : Type 0 where
+pub record IsWalk (part : Part) (ds : List Definition) (ns : Nodes) (named : NamedSet) (seen : List Bool) (left : List Node) : Type 0 where
   pub each : length seen ≡ length ds
-  pub sound : (q : NamedItem) → named q ≡ true → named_in_nodes (expand_nodes (macro_expansion ds) ns) q ≡ true
-  pub rest : (q : NamedItem) → all_named (macro_expansion ds) left q ≡ true → named_in_nodes (expand_nodes (macro_expansion ds) ns) q ≡ true
-  pub layout : Kept ds named seen left (all_nodes ns)
-  pub macros : (i : ℕ) → is_marked seen i ≡ true → Kept ds named seen left (all_nodes (children_at ds i))
+  pub sound : (q : NamedItem) → named q ≡ true → part_in part (expand_nodes (macro_expansion ds) ns) q ≡ true
+  pub rest : (q : NamedItem) → all_named part (macro_expansion ds) left q ≡ true → part_in part (expand_nodes (macro_expansion ds) ns) q ≡ true
+  pub layout : Kept part ds named seen left (all_nodes ns)
+  pub macros : (i : ℕ) → is_marked seen i ≡ true → Kept part ds named seen left (all_nodes (children_at ds i))
 
 first_or_later : (x n : Node) (xs : List Node) → Contains (x ∷ xs) n → (x ≡ n) ⊎ Contains xs n
 first_or_later x n xs (zero, less, is) = inl is
@@ -83,18 +83,18 @@ later_within x n xs (k, less, is) = (suc k, omega arith, is)
 none_within : (n : Node) → Contains [] n → ⊥
 none_within n (k, less, is) = omega arith
 
-module _ (ds : List Definition) (ns : Nodes) where
+module _ (part : Part) (ds : List Definition) (ns : Nodes) where
   abbrev all : NamedSet
-  all = named_in_nodes (expand_nodes (macro_expansion ds) ns)
+  all = part_in part (expand_nodes (macro_expansion ds) ns)
 
   never_named : (q : NamedItem) → empty_named_set q ≡ true → all q ≡ true
   never_named q h = absurd (false≢true h)
 
-  pub start : IsWalk ds ns empty_named_set (replicate (length ds) false) (all_nodes ns)
+  pub start : IsWalk part ds ns empty_named_set (replicate (length ds) false) (all_nodes ns)
   start = record {
     each = length-replicate (length ds) false;
     sound = never_named;
-    rest = λ q h. subst (λ (s : NamedSet). s q ≡ true) (list_named (macro_expansion ds) ns) h;
+    rest = λ q h. subst (λ (s : NamedSet). s q ≡ true) (list_named part (macro_expansion ds) ns) h;
     layout = λ n h. inl h;
     macros = λ i h. absurd (false≢true (sym (none-marked (length ds) i) ∙ h));
   }
@@ -105,42 +105,42 @@ module _ (ds : List Definition) (ns : Nodes) where
       (stay : (n : Node) → Contains left n → Contains more n)
       (marked : AreMarked new (own_calls ds (called_name v))) where
     abbrev now : NamedSet
-    now = named_union named (named_itself v)
+    now = named_union named (part_itself part v)
 
-    stays : (xs : List Node) → Kept ds named seen (v ∷ left) xs → Kept ds now new more xs
+    stays : (xs : List Node) → Kept part ds named seen (v ∷ left) xs → Kept part ds now new more xs
     stays xs k n h = elim (k n h) [
       | inl l ↦ elim (first_or_later v n left l) [
-        | inl e ↦ inr (subst (IsDone ds now new) e (record { itself = in_right named (named_itself v); calls = marked }))
+        | inl e ↦ inr (subst (IsDone part ds now new) e (record { itself = in_right named (part_itself part v); calls = marked }))
         | inr m ↦ inl (stay n m)
       ]
-      | inr d ↦ inr (record { itself = λ q x. in_left named (named_itself v) q (d.itself q x); calls = λ i x. still i (d.calls i x) })
+      | inr d ↦ inr (record { itself = λ q x. in_left named (part_itself part v) q (d.itself q x); calls = λ i x. still i (d.calls i x) })
     ]
 
-  module _ (named : NamedSet) (seen : List Bool) (v : Node) (left : List Node) (w : IsWalk ds ns named seen (v ∷ left)) where
+  module _ (named : NamedSet) (seen : List Bool) (v : Node) (left : List Node) (w : IsWalk part ds ns named seen (v ∷ left)) where
     abbrev then_named : NamedSet
-    then_named = named_union named (named_itself v)
+    then_named = named_union named (part_itself part v)
 
-    own_within : (q : NamedItem) → own_named (macro_expansion ds) v q ≡ true → all q ≡ true
-    own_within q h = w.rest q (in_left (own_named (macro_expansion ds) v) (all_named (macro_expansion ds) left) q h)
+    own_within : (q : NamedItem) → own_named part (macro_expansion ds) v q ≡ true → all q ≡ true
+    own_within q h = w.rest q (in_left (own_named part (macro_expansion ds) v) (all_named part (macro_expansion ds) left) q h)
 
-    left_within : (q : NamedItem) → all_named (macro_expansion ds) left q ≡ true → all q ≡ true
-    left_within q h = w.rest q (in_right (own_named (macro_expansion ds) v) (all_named (macro_expansion ds) left) q h)
+    left_within : (q : NamedItem) → all_named part (macro_expansion ds) left q ≡ true → all q ≡ true
+    left_within q h = w.rest q (in_right (own_named part (macro_expansion ds) v) (all_named part (macro_expansion ds) left) q h)
 
-    itself_within : (q : NamedItem) → named_itself v q ≡ true → all q ≡ true
-    itself_within q h = own_within q (in_left (named_itself v) (named_in_macro (called_nodes (macro_expansion ds) (called_name v))) q h)
+    itself_within : (q : NamedItem) → part_itself part v q ≡ true → all q ≡ true
+    itself_within q h = own_within q (in_left (part_itself part v) (in_macro part (called_nodes (macro_expansion ds) (called_name v))) q h)
 
     -- the macro that the node calls is marked already, or there is none
-    pub passed : AreMarked seen (own_calls ds (called_name v)) → IsWalk ds ns then_named seen left
+    pub passed : AreMarked seen (own_calls ds (called_name v)) → IsWalk part ds ns then_named seen left
     passed marked = record {
       each = w.each;
-      sound = both_within named (named_itself v) all w.sound itself_within;
+      sound = both_within named (part_itself part v) all w.sound itself_within;
       rest = left_within;
       layout = stays named seen seen v left left (λ i h. h) (λ n h. h) marked (all_nodes ns) w.layout;
       macros = λ i h. stays named seen seen v left left (λ j x. x) (λ n x. x) marked (all_nodes (children_at ds i)) (w.macros i h);
     }
 
     -- the nodes of the macro that the node calls come first, and its place is marked
-    pub entered : (i : ℕ) (body : Nodes) → IsCall ds v i body → IsWalk ds ns then_named (set seen i true) (all_nodes body ++ left)
+    pub entered : (i : ℕ) (body : Nodes) → IsCall ds v i body → IsWalk part ds ns then_named (set seen i true) (all_nodes body ++ left)
     entered i body c =
         let inside : i < length seen = omega (arith, w.each, c.within) in
         let new = set seen i true in
@@ -150,8 +150,8 @@ module _ (ds : List Definition) (ns : Nodes) where
         let marked : AreMarked new (own_calls ds (called_name v)) = λ j h. only i j seen inside (subst (λ (xs : List ℕ). Contains xs j) c.place h) in
         record {
           each = length-set seen i true ∙ w.each;
-          sound = both_within named (named_itself v) all w.sound itself_within;
-          rest = λ q h. body_or_left i body c q (in_either (all_named (macro_expansion ds) (all_nodes body)) (all_named (macro_expansion ds) left) q (subst (λ (s : NamedSet). s q ≡ true) (named_append (macro_expansion ds) (all_nodes body) left) h));
+          sound = both_within named (part_itself part v) all w.sound itself_within;
+          rest = λ q h. body_or_left i body c q (in_either (all_named part (macro_expansion ds) (all_nodes body)) (all_named part (macro_expansion ds) left) q (subst (λ (s : NamedSet). s q ≡ true) (named_append part (macro_expansion ds) (all_nodes body) left) h));
           layout = stays named seen new v left more still stay marked (all_nodes ns) w.layout;
           macros = λ j h. elim (marked-before seen i inside j h) [
             | inl e ↦ λ n x. inl (Contains-append_left (all_nodes body) left n (subst (λ (b : Nodes). Contains (all_nodes b) n) (ap (children_at ds) e ∙ c.nodes) x))
@@ -162,52 +162,52 @@ module _ (ds : List Definition) (ns : Nodes) where
           only i j seen inside (zero, less, is) = subst (λ k. is_marked (set seen i true) k ≡ true) is (get_or-set_same seen i true false inside)
           only i j seen inside (suc k, less, is) = absurd (omega arith)
 
-          body_or_left : (i : ℕ) (body : Nodes) → IsCall ds v i body → (q : NamedItem) → (all_named (macro_expansion ds) (all_nodes body) q ≡ true) ⊎ (all_named (macro_expansion ds) left q ≡ true) → all q ≡ true
-          body_or_left i body c q (inl h) = own_within q (in_right (named_itself v) (named_in_macro (called_nodes (macro_expansion ds) (called_name v))) q (subst (λ (s : NamedSet). s q ≡ true) (list_named (macro_expansion ds) body ∙ ap named_in_macro (sym c.meaning)) h))
+          body_or_left : (i : ℕ) (body : Nodes) → IsCall ds v i body → (q : NamedItem) → (all_named part (macro_expansion ds) (all_nodes body) q ≡ true) ⊎ (all_named part (macro_expansion ds) left q ≡ true) → all q ≡ true
+          body_or_left i body c q (inl h) = own_within q (in_right (part_itself part v) (in_macro part (called_nodes (macro_expansion ds) (called_name v))) q (subst (λ (s : NamedSet). s q ≡ true) (list_named part (macro_expansion ds) body ∙ ap (in_macro part) (sym c.meaning)) h))
           body_or_left i body c q (inr h) = left_within q h
 
 -- ---- the steps, where the values of the code are known by equations
 
-pub start_at : (ds : List Definition) (ns : Nodes) (named : NamedSet) (seen : List Bool) (left : List Node) → named ≡ empty_named_set → seen ≡ replicate (length ds) false → left ≡ all_nodes ns → IsWalk ds ns named seen left
-start_at ds ns named seen left e f g = rw (e, f, g) (start ds ns)
+pub start_at : (part : Part) (ds : List Definition) (ns : Nodes) (named : NamedSet) (seen : List Bool) (left : List Node) → named ≡ empty_named_set → seen ≡ replicate (length ds) false → left ≡ all_nodes ns → IsWalk part ds ns named seen left
+start_at part ds ns named seen left e f g = rw (e, f, g) (start part ds ns)
 
-pub passed_at : (ds : List Definition) (ns : Nodes) (named after : NamedSet) (seen new : List Bool) (left : List Node) (v : Node) (rest : List Node)
-    → IsWalk ds ns named seen left → left ≡ v ∷ rest → after ≡ named_union named (named_itself v) → AreMarked seen (own_calls ds (called_name v)) → new ≡ seen → IsWalk ds ns after new rest
-passed_at ds ns named after seen new left v rest w e f marked g = rw (f, g) (passed ds ns named seen v rest (subst (IsWalk ds ns named seen) e w) marked)
+pub passed_at : (part : Part) (ds : List Definition) (ns : Nodes) (named after : NamedSet) (seen new : List Bool) (left : List Node) (v : Node) (rest : List Node)
+    → IsWalk part ds ns named seen left → left ≡ v ∷ rest → after ≡ named_union named (part_itself part v) → AreMarked seen (own_calls ds (called_name v)) → new ≡ seen → IsWalk part ds ns after new rest
+passed_at part ds ns named after seen new left v rest w e f marked g = rw (f, g) (passed part ds ns named seen v rest (subst (IsWalk part ds ns named seen) e w) marked)
 
-pub entered_at : (ds : List Definition) (ns : Nodes) (named after : NamedSet) (seen new : List Bool) (left : List Node) (v : Node) (rest more : List Node) (body : Nodes)
-    → IsWalk ds ns named seen left → left ≡ v ∷ rest → after ≡ named_union named (named_itself v) → IsFirstCall ds v body seen new → more ≡ all_nodes body ++ rest → IsWalk ds ns after new more
-entered_at ds ns named after seen new left v rest more body w e f (i, c, g) h = rw (f, g, h) (entered ds ns named seen v rest (subst (IsWalk ds ns named seen) e w) i body c)
+pub entered_at : (part : Part) (ds : List Definition) (ns : Nodes) (named after : NamedSet) (seen new : List Bool) (left : List Node) (v : Node) (rest more : List Node) (body : Nodes)
+    → IsWalk part ds ns named seen left → left ≡ v ∷ rest → after ≡ named_union named (part_itself part v) → IsFirstCall ds v body seen new → more ≡ all_nodes body ++ rest → IsWalk part ds ns after new more
+entered_at part ds ns named after seen new left v rest more body w e f (i, c, g) h = rw (f, g, h) (entered part ds ns named seen v rest (subst (IsWalk part ds ns named seen) e w) i body c)
 
 -- ---- nothing is left
 
-module _ (ds : List Definition) (named : NamedSet) (seen : List Bool)
-    (closed : (i : ℕ) → is_marked seen i ≡ true → (n : Node) → Contains (all_nodes (children_at ds i)) n → IsDone ds named seen n) where
+module _ (part : Part) (ds : List Definition) (named : NamedSet) (seen : List Bool)
+    (closed : (i : ℕ) → is_marked seen i ≡ true → (n : Node) → Contains (all_nodes (children_at ds i)) n → IsDone part ds named seen n) where
   -- all that a name stands for is named, if its macro is marked
   abbrev AreNamed : (List ℕ → Option ExpandedNodes) → Type 0
-  AreNamed env = (name : List ℕ) → AreMarked seen (call_of ds name) → Within (named_in_macro (env name)) named
+  AreNamed env = (name : List ℕ) → AreMarked seen (call_of ds name) → Within (in_macro part (env name)) named
 
   nothing_within : Within empty_named_set named
   nothing_within q h = absurd (false≢true h)
 
-  called_within : (env : List ℕ → Option ExpandedNodes) → AreNamed env → (o : Option (List ℕ)) → AreMarked seen (own_calls ds o) → Within (named_in_macro (called_nodes env o)) named
+  called_within : (env : List ℕ → Option ExpandedNodes) → AreNamed env → (o : Option (List ℕ)) → AreMarked seen (own_calls ds o) → Within (in_macro part (called_nodes env o)) named
   called_within env calls None m = nothing_within
   called_within env calls (Some name) m = calls name m
 
-  list_within : (env : List ℕ → Option ExpandedNodes) → AreNamed env → (xs : List Node) → ((n : Node) → Contains xs n → IsDone ds named seen n) → Within (all_named env xs) named
+  list_within : (env : List ℕ → Option ExpandedNodes) → AreNamed env → (xs : List Node) → ((n : Node) → Contains xs n → IsDone part ds named seen n) → Within (all_named part env xs) named
   list_within env calls [] done = nothing_within
   list_within env calls (x ∷ xs) done =
       let here = done x (first_within x xs) in
-      both_within (own_named env x) (all_named env xs) named
-      (both_within (named_itself x) (named_in_macro (called_nodes env (called_name x))) named here.itself (called_within env calls (called_name x) here.calls))
+      both_within (own_named part env x) (all_named part env xs) named
+      (both_within (part_itself part x) (in_macro part (called_nodes env (called_name x))) named here.itself (called_within env calls (called_name x) here.calls))
       (list_within env calls xs (λ n h. done n (later_within x n xs h)))
 
   place_within : (name : List ℕ) (env : List ℕ → Option ExpandedNodes) → AreNamed env → (o : Option ℕ) → macro_index name ds ≡ o → AreMarked seen (option_to_list o)
-      → Within (named_in_macro (option_map (expand_nodes env) (macro_body name ds))) named
+      → Within (in_macro part (option_map (expand_nodes env) (macro_body name ds))) named
   place_within name env calls None e m = rw (body-none name ds e) nothing_within
   place_within name env calls (Some i) e m =
       let all = list_within env calls (all_nodes (children_at ds i)) (closed i (m i (0, omega arith, refl))) in
-      rw ((place-is name ds i e).holds) (subst (λ (s : NamedSet). Within s named) (list_named env (children_at ds i)) all)
+      rw ((place-is name ds i e).holds) (subst (λ (s : NamedSet). Within s named) (list_named part env (children_at ds i)) all)
 
   depth_within : (k : ℕ) → AreNamed (expansion_to_depth ds k)
   unfolding expansion_to_depth
@@ -218,20 +218,20 @@ module _ (ds : List Definition) (named : NamedSet) (seen : List Bool)
   unfolding macro_expansion
   all_within = depth_within (length ds)
 
-module _ (ds : List Definition) (ns : Nodes) (named : NamedSet) (seen : List Bool) (w : IsWalk ds ns named seen []) where
-  done : (n : Node) → Contains [] n ⊎ IsDone ds named seen n → IsDone ds named seen n
+module _ (part : Part) (ds : List Definition) (ns : Nodes) (named : NamedSet) (seen : List Bool) (w : IsWalk part ds ns named seen []) where
+  done : (n : Node) → Contains [] n ⊎ IsDone part ds named seen n → IsDone part ds named seen n
   done n (inl h) = absurd (none_within n h)
   done n (inr d) = d
 
-  pub finished : named ≡ named_in_nodes (expand_nodes (macro_expansion ds) ns)
+  pub finished : named ≡ part_in part (expand_nodes (macro_expansion ds) ns)
   finished =
       let env = macro_expansion ds in
-      let closed : (i : ℕ) → is_marked seen i ≡ true → (n : Node) → Contains (all_nodes (children_at ds i)) n → IsDone ds named seen n = λ i m n h. done n (w.macros i m n h) in
-      same_items named (named_in_nodes (expand_nodes env ns)) w.sound
-      (subst (λ (s : NamedSet). Within s named) (list_named env ns) (list_within ds named seen closed env (all_within ds named seen closed) (all_nodes ns) (λ n h. done n (w.layout n h))))
+      let closed : (i : ℕ) → is_marked seen i ≡ true → (n : Node) → Contains (all_nodes (children_at ds i)) n → IsDone part ds named seen n = λ i m n h. done n (w.macros i m n h) in
+      same_items named (part_in part (expand_nodes env ns)) w.sound
+      (subst (λ (s : NamedSet). Within s named) (list_named part env ns) (list_within part ds named seen closed env (all_within part ds named seen closed) (all_nodes ns) (λ n h. done n (w.layout n h))))
 
-pub finished_at : (ds : List Definition) (ns : Nodes) (named : NamedSet) (seen : List Bool) (left : List Node) → IsWalk ds ns named seen left → left ≡ [] → named ≡ named_in_nodes (expand_nodes (macro_expansion ds) ns)
-finished_at ds ns named seen left w e = finished ds ns named seen (subst (IsWalk ds ns named seen) e w)
+pub finished_at : (part : Part) (ds : List Definition) (ns : Nodes) (named : NamedSet) (seen : List Bool) (left : List Node) → IsWalk part ds ns named seen left → left ≡ [] → named ≡ part_in part (expand_nodes (macro_expansion ds) ns)
+finished_at part ds ns named seen left w e = finished part ds ns named seen (subst (IsWalk part ds ns named seen) e w)
 
 -- ---- how much is left falls
 

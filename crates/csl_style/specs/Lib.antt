@@ -17,6 +17,9 @@ pub mod Depth
 pub mod Size
 pub mod Scopes
 pub mod Named
+pub mod NamesOf
+pub mod Tested
+pub mod Told
 pub mod NamedWalk
 pub use Rattle.csl_elements.specs.Lookup
 pub use Rattle.csl_elements.specs.Formatting

@@ -101,11 +101,6 @@ abbrev mutual
   named_in_substitutes no_expanded_substitutes = empty_named_set
   named_in_substitutes (expanded_substitute fs is) = named_union (named_in_nodes fs) (named_in_substitutes is)
 
--- the variables and kinds that a macro's nodes name; none if the style lacks the macro
-abbrev pub named_in_macro : Option ExpandedNodes → NamedSet
-named_in_macro None = empty_named_set
-named_in_macro (Some fs) = named_in_nodes fs
-
 -- ---- as written
 
 -- a child of a names node, without the variables of the node

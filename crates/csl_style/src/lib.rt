@@ -18,6 +18,8 @@ mod scopes;
 mod size;
 pub mod style;
 mod term_places;
+mod tested;
+mod told;
 mod year_suffix;
 
 pub use csl_elements::{
@@ -37,3 +39,5 @@ pub use named::named_by;
 pub use style::{
     DemoteNonDroppingParticle, PageRangeFormat, Scope, Style, StyleError, StyleSettings,
 };
+pub use tested::named_by_tests;
+pub use told::named_beside;

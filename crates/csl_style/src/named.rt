@@ -1,5 +1,6 @@
 //! The variables and kinds that a layout names, in itself and in the macros that it reaches (CSL
-//! 1.0.2, Rendering Elements; Macro; Choose; Substitute). The nodes come as a flat list
+//! 1.0.2, Rendering Elements; Macro; Choose; Substitute): all of them, those in tests of branches,
+//! or those that a cite of one variable tells beside it. The nodes come as a flat list
 //! ([`NodesLeft`]), so no depth takes stack.
 
 ghost use Rattle.std.specs.Prelude.{◌≡◌, None, length, IfSome, IfOk, OnOk, option_map};
@@ -9,11 +10,13 @@ ghost use Rattle.csl_elements.specs.NamedSet.{empty_named_set, named_set};
 ghost use Rattle.csl_style.specs.AllNodes.{called_name};
 ghost use Rattle.csl_style.specs.CallGraph.{own_calls};
 ghost use Rattle.csl_style.specs.Named.{the_variable, the_kind, the_name, the_date, the_number_or_page, each_of, each_if, named_in_nodes};
-ghost use Rattle.csl_style.specs.NamedWalk.{Adds, named_in_tests_of, named_itself, AreMarked, IsFirstCall};
+ghost use Rattle.csl_style.specs.NamedWalk.{Adds, named_in_tests_of, named_itself, part_itself, part_in, AreMarked, IsFirstCall};
 ghost use Rattle.csl_style.specs.Expanded.{macro_env};
 
 use crate::all_nodes::{NodesLeft, called_name};
 use crate::style::Style;
+use crate::tested::add_tested;
+use crate::told::add_told;
 use csl_common::Memory;
 use csl_elements::{
     Choose, ChooseBranch, CslMacro, DateVariable, Kind, Layout, LayoutRenderingElement,
@@ -22,6 +25,17 @@ use csl_elements::{
 };
 use std::alloc::Global;
 use std::collections::BTreeSet;
+
+/// A part of what a layout names.
+#[derive(Clone, Copy)]
+pub(crate) enum Part {
+    /// All that it names.
+    Whole,
+    /// What the tests of branches name.
+    Tested,
+    /// What a cite that shows this variable alone tells beside it.
+    Beside(Variable),
+}
 
 /// Returns six empty sets.
 #[tactic(auto, using(crate::proofs::Noted::has_nothing))]
@@ -40,7 +54,7 @@ fn empty_named(alloc: Global) -> Named
 
 /// Adds a variable, unless the citation answers it.
 #[tactic(auto, using(crate::proofs::Noted::noted_laws))]
-fn add_variable(named: &mut Named, variable: Variable) -> Result<(), Memory>
+pub(crate) fn add_variable(named: &mut Named, variable: Variable) -> Result<(), Memory>
     ensures { OnOk result (Adds (the_variable variable) named.old named.new) }
 {
     if variable.is_of_citation() {
@@ -77,7 +91,7 @@ fn add_kind(named: &mut Named, kind: Kind) -> Result<(), Memory>
 
 /// Adds nothing. The named variables and kinds are for the clause alone.
 #[tactic(auto, using(crate::proofs::NamedNodes::adds_nothing))]
-fn add_nothing(_named: &mut Named) -> Result<(), Memory>
+pub(crate) fn add_nothing(_named: &mut Named) -> Result<(), Memory>
     ensures { OnOk result (Adds empty_named_set _named.old _named.new) }
 {
     Ok(())
@@ -135,7 +149,10 @@ fn add_kinds(named: &mut Named, tested: &Option<Vec<Kind>>) -> Result<(), Memory
 }
 
 /// Adds the variable of a number or a label.
-fn add_number_or_page(named: &mut Named, variable: NumberOrPageVariable) -> Result<(), Memory>
+pub(crate) fn add_number_or_page(
+    named: &mut Named,
+    variable: NumberOrPageVariable,
+) -> Result<(), Memory>
     ensures { OnOk result (Adds (the_number_or_page variable) named.old named.new) }
 {
     match variable {
@@ -146,7 +163,7 @@ fn add_number_or_page(named: &mut Named, variable: NumberOrPageVariable) -> Resu
 
 /// Adds the variables of a names node.
 #[tactic(auto, using(crate::proofs::NamedNodes::names_laws))]
-fn add_names(named: &mut Named, names: &Names) -> Result<(), Memory>
+pub(crate) fn add_names(named: &mut Named, names: &Names) -> Result<(), Memory>
     ensures { OnOk result (Adds (named_itself (view_names names.now)) named.old named.new) }
 {
     for v in &names.variable {
@@ -168,7 +185,7 @@ fn add_tests(named: &mut Named, branch: &ChooseBranch) -> Result<(), Memory>
 
 /// Adds the variables and kinds that the branches of a choice test.
 #[tactic(auto, using(crate::proofs::NamedNodes::choose_laws))]
-fn add_choose(named: &mut Named, choose: &Choose) -> Result<(), Memory>
+pub(crate) fn add_choose(named: &mut Named, choose: &Choose) -> Result<(), Memory>
     ensures { OnOk result (Adds (named_itself (view_choose choose.now)) named.old named.new) }
 {
     add_tests(named, &choose.if_)?;
@@ -225,6 +242,40 @@ fn unmarked_macro<'s>(
     style.get_macro(name)
 }
 
+/// Adds the part of what a node names itself.
+fn add_part(named: &mut Named, part: Part, node: &LayoutRenderingElement) -> Result<(), Memory>
+    ensures { OnOk result (Adds (part_itself part (view_node node.now)) named.old named.new) }
+{
+    match part {
+        Part::Whole => add_node(named, node),
+        Part::Tested => add_tested(named, node),
+        Part::Beside(variable) => add_told(named, variable, node),
+    }
+}
+
+/// Returns a part of what a layout names, in itself and in the macros of the style that it reaches.
+/// It goes through no macro twice, and no depth takes stack.
+pub(crate) fn named_part(
+    alloc: Global,
+    style: &Style,
+    layout: &Layout,
+    part: Part,
+) -> Result<Named, Memory>
+    ensures { IfOk result (λ named. named_set named ≡ part_in part
+        (expand_layout (macro_env style.now) (view_layout layout.now)).elements) }
+{
+    let mut named = empty_named(alloc);
+    let mut seen = vec![in alloc; false; style.macros().len()]?;
+    let mut left = NodesLeft::new(alloc, &layout.elements)?;
+    while let Some(node) = left.next()? {
+        add_part(&mut named, part, node)?;
+        if let Some(found) = unmarked_macro(style, &mut seen, node) {
+            left.push(&found.children)?;
+        }
+    }
+    Ok(named)
+}
+
 /// Returns the variables and kinds that a layout names, in itself and in the macros of the style
 /// that it reaches. Every branch with its tests and every substitute is included. The four
 /// variables that the citation answers ([`Variable::is_of_citation`]) are left out. It goes through
@@ -233,14 +284,5 @@ pub fn named_by(alloc: Global, style: &Style, layout: &Layout) -> Result<Named, 
     ensures { IfOk result (λ named. named_set named
         ≡ named_in_nodes (expand_layout (macro_env style.now) (view_layout layout.now)).elements) }
 {
-    let mut named = empty_named(alloc);
-    let mut seen = vec![in alloc; false; style.macros().len()]?;
-    let mut left = NodesLeft::new(alloc, &layout.elements)?;
-    while let Some(node) = left.next()? {
-        add_node(&mut named, node)?;
-        if let Some(found) = unmarked_macro(style, &mut seen, node) {
-            left.push(&found.children)?;
-        }
-    }
-    Ok(named)
+    named_part(alloc, style, layout, Part::Whole)
 }

@@ -1,4 +1,4 @@
-use Rattle.std.proofs.Common.{◌≡◌, ℕ, ◌<◌, ◌≤◌, length}
+use Rattle.std.proofs.Common.{◌≡◌, ℕ, ◌<◌}
 use Rattle.csl_elements.specs.Node.{expand_nodes}
 use Rattle.csl_elements.specs.View.{definitions}
 use Rattle.csl_style.specs.CallGraph.{children_at}

@@ -1,4 +1,4 @@
-use Rattle.std.proofs.Common.{◌≡◌, ◌+◌, Bool, not, ap, sym, ◌∙◌, rules}
+use Rattle.std.proofs.Common.{◌≡◌, ◌+◌, Bool, not, ◌∙◌, rules}
 use Rattle.std.proofs.Math.Dec.{eqb}
 use Rattle.csl_elements.specs.Node.{expand}
 use Rattle.csl_elements.specs.View.{view_node}

@@ -1,11 +1,7 @@
-use Rattle.std.proofs.Common.{◌≡◌, ◌<◌, length, slice_index_or, Some, None, option_map, refl, suc, false, true, ap, sym, ◌∙◌, arith, rules}
+use Rattle.std.proofs.Common.{◌≡◌, slice_index_or, Some, None, refl, arith}
 use Rattle.std.proofs.lemmas.Grind.{common_steps}
-use Rattle.std.proofs.lemmas.List.{get_or_read}
-use Rattle.csl_elements.specs.View.{definitions, view_node}
-use Rattle.csl_elements.specs.Node.{expand_nodes}
+use Rattle.csl_elements.specs.View.{view_node}
 use Rattle.csl_style.specs.AllNodes.{called_name}
-use Rattle.csl_style.specs.CallGraph.{children_at}
-use Rattle.csl_style.specs.Expanded.{macro_env}
 use Rattle.csl_style.proofs.AllWithins.{call_all, call_rendered, call_depth}
 use Rattle.csl_style.proofs.size.known_macro.Goals as goal
 

@@ -1,6 +1,6 @@
 -- The variables and kinds that tests of branches name, in nodes with all macros expanded (CSL 1.0.2,
 -- Choose). Every branch counts, chosen or not, and so does every substitute. What a layout *tests*
--- is a part of what it names (`Named` of `csl_style`).
+-- is a part of what it names (`Named`).
 use Rattle.csl_elements.specs.declared.element.Layout.{Layout}
 use Rattle.csl_elements.specs.NamedSet.{NamedSet, empty_named_set, named_union}
 use Rattle.csl_elements.specs.Node.{ExpandedNode, expanded_text, expanded_macro, unknown_macro, expanded_number, expanded_label, expanded_date, expanded_names, shorthand, expanded_choose, expanded_group, ExpandedNodes, no_expanded_nodes, expanded_node, ExpandedBranches, no_expanded_branches, expanded_otherwise, expanded_branch, ExpandedSubstitutes, no_expanded_substitutes, expanded_substitute, expand_layout}

@@ -2,30 +2,26 @@
 -- Choose; Label): what tests of branches name, the variables of labels, and the own variables of names
 -- that have the variable or have names of it directly in their substitute. Every branch counts, chosen
 -- or not, and so does every substitute. All else that a layout names it does not tell.
-use Rattle.std.specs.Prelude.{Bool, false, ◌||◌, if◌then◌else◌}
+use Rattle.std.specs.Prelude.{Bool, true, false}
 use Rattle.csl_elements.specs.declared.element.Layout.{Layout}
 use Rattle.csl_elements.specs.declared.taxonomy.Variable.{Variable}
-use Rattle.csl_elements.specs.declared.taxonomy.Variable.TheVariants as variable
 use Rattle.csl_elements.specs.NamedSet.{NamedSet, empty_named_set, named_union}
 use Rattle.csl_elements.specs.Names.{NamesNode}
 use Rattle.csl_elements.specs.Node.{ExpandedNode, expanded_macro, expanded_label, expanded_names, shorthand, expanded_choose, expanded_group, ExpandedNodes, no_expanded_nodes, expanded_node, ExpandedBranches, no_expanded_branches, expanded_otherwise, expanded_branch, ExpandedSubstitutes, no_expanded_substitutes, expanded_substitute, expand_layout}
 use Rattle.csl_elements.specs.View.{view_layout}
 use Rattle.csl_style.specs.Expanded.{macro_env}
 use Rattle.csl_style.specs.Named.{named_in_names, named_in_tests, the_number_or_page}
+use Rattle.csl_style.specs.NamesOf.{has_alone}
 use Rattle.csl_style.specs.Style.{StyleParts}
-use Rattle.csl_render.specs.Names.{has_variable, substitute_has_names_of}
 
--- whether names have the variable, or names of it directly in their substitute
-abbrev pub has_alone : Variable → NamesNode → ExpandedSubstitutes → Bool
-has_alone (variable.Standard v) n is = false
-has_alone (variable.Number v) n is = false
-has_alone (variable.Page v) n is = false
-has_alone (variable.Name v) n is = has_variable v n.variables || substitute_has_names_of v is
-has_alone (variable.Date v) n is = false
+-- the variables of names that tell their own, else none
+abbrev pub names_if : Bool → NamesNode → NamedSet
+names_if true n = named_in_names n
+names_if false n = empty_named_set
 
--- the own variables of such names
+-- the own variables of names that have the variable, or names of it in their substitute
 abbrev pub names_told : Variable → NamesNode → ExpandedSubstitutes → NamedSet
-names_told v n is item = if has_alone v n is then named_in_names n item else false
+names_told v n is = names_if (has_alone v n is) n
 
 -- what counts beside the variable itself
 abbrev mutual
