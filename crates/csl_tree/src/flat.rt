@@ -279,9 +279,7 @@ impl FlatTree {
         Ok(())
     }
 
-    /// Appends a text as a child of its own. It is out of line, since a text that joins another needs
-    /// none of its stack.
-    #[inline(never)]
+    /// Appends a text as a child of its own.
     fn push_new_text(&mut self, more: &str, formatting: Formatting) -> Result<(), Memory>
         ensures ok { OnOk result
             (self.new ≡ with_tokens (spec.text more.now formatting ∷ []) self.old) }
