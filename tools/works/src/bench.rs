@@ -9,6 +9,8 @@ mod limited;
 mod lists;
 mod literature;
 mod nested;
+mod published;
+mod published_style;
 pub mod render;
 mod rows;
 mod strangers;
@@ -59,6 +61,8 @@ pub fn count(alloc: Global, name: &str, size: usize) -> Result<usize, WorkError>
         "bibliography" => bibliography::bibliography(alloc, size),
         "bibliography_simplified" => bibliography::bibliography_simplified(alloc, size),
         "full_note" => full_note::full_note(alloc, size),
+        "published_cites" => published::published_cites(alloc, size),
+        "published_lines" => published::published_lines(alloc, size),
         "whole" => whole::whole(alloc, size),
         "doubling" => nested::doubling(alloc, size),
         "doubling_named" => nested::doubling_named(alloc, size),
