@@ -13,6 +13,7 @@
 mod boxes;
 mod branch_conditions;
 mod branch_tests;
+mod charges;
 mod condition;
 mod date;
 mod date_key;

@@ -12,6 +12,7 @@ ghost use Rattle.csl_nodes.specs.Text.{Appends};
 ghost use Rattle.csl_nodes.specs.Usage.{info_view};
 
 use crate::boxes::{NodeDressing, render_unquoted};
+use crate::charges::charge_answer;
 use crate::dressing::Body;
 use crate::empty::push_nothing;
 use crate::number_or_page::{number_node_text, peek_number_or_page, resolve_number_or_page};
@@ -188,6 +189,7 @@ fn render_found<'s, T: EntryLike>(
         (view_number
         number.now) (Some (number_or_page_view found.now))) now) result ctx.old ctx.new }
 {
+    charge_answer(ctx, found)?;
     match ctx.attempt(optional_sort_text(ctx, found))? {
         Some(key) => ctx.push_str(key.as_str()),
         None => render_box(ctx, number, found),

@@ -11,6 +11,7 @@ ghost use Rattle.csl_context.specs.Context.{Runs, Gives, GivesBy, render_input};
 ghost use Rattle.csl_nodes.specs.Text as spec;
 ghost use Rattle.csl_nodes.specs.Usage.{info_view};
 
+use crate::charges::charge_answer;
 use crate::dressing::{Body, render_body};
 use crate::empty::push_nothing;
 use crate::links::{address, address_prefix, begins_link};
@@ -254,6 +255,7 @@ pub(crate) fn render_found<'s, T: EntryLike>(
             answer.as_ref(),
         ),
         ResolvedText::NumberResult(variable, answer) => {
+            charge_answer(ctx, answer)?;
             let meta = Some(numeral_meta(*variable));
             let shown = ctx.attempt(text_node_text(ctx, answer))?;
             render_body(ctx, text, &text.affixes, meta, Body::Number(&shown))

@@ -7,6 +7,7 @@ mod english;
 mod errors;
 mod every_type;
 mod languages;
+mod limits;
 mod lists;
 mod more_languages;
 mod terms;
