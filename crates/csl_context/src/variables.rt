@@ -65,6 +65,26 @@ impl<'s, T: EntryLike> Context<'s, T> {
         Ok(self.instance.resolve_page_variable(alloc, variable)?)
     }
 
+    /// Looks up a page variable silently. Returns the same as [`Context::peek_page_variable`], lent
+    /// if the entry holds it.
+    ///
+    /// # Errors
+    /// As [`Context::peek_page_variable`].
+    pub fn peek_pages(
+        &self,
+        variable: PageVariable,
+    ) -> Result<Option<Cow<'s, PageVariableResult>>, RenderError>
+        ensures { Looks (option_map (cow_view (maybe_view pages_view))) result
+            (peek_page (render_input T.answers self.now) self.now.state variable) self.now }
+    {
+        self.ensure_live()?;
+        let pages = Variable::Page(variable);
+        if self.is_suppressed(pages) {
+            return Ok(None);
+        }
+        Ok(self.instance.lend_pages(self.writing.alloc, variable)?)
+    }
+
     /// Looks up a standard variable in a form silently (CSL 1.0.2, Standard Variables). Returns the
     /// cite's answer, or `None` if the variable is suppressed.
     ///

@@ -49,6 +49,14 @@ impl EntryLike for Entry {
         page::page_variable(alloc, self, variable)
     }
 
+    fn lend_pages(
+        &self,
+        _alloc: Global,
+        variable: PageVariable,
+    ) -> Result<Option<Cow<'_, MaybeTyped<PageRanges>>>, Memory> {
+        Ok(page::lent_pages(self, variable))
+    }
+
     fn resolve_standard_variable(
         &self,
         alloc: Global,

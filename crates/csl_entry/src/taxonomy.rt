@@ -49,6 +49,22 @@ pub trait EntryLike {
         ensures { IfOk result (λ found. option_map (maybe_view pages_view) found
             ≡ (answers self.now).pages variable) };
 
+    /// Returns the same as [`EntryLike::resolve_page_variable`], lent if the entry holds it. Labels,
+    /// tests and dry runs ask this. By default it is the answer of that call, owned.
+    fn lend_pages(
+        &self,
+        alloc: Global,
+        variable: PageVariable,
+    ) -> Result<Option<Cow<'_, MaybeTyped<PageRanges>>>, Memory>
+        ensures { IfOk result (λ found. option_map (cow_view (maybe_view pages_view)) found
+            ≡ (answers self.now).pages variable) }
+    {
+        match self.resolve_page_variable(alloc, variable)? {
+            Some(pages) => Ok(Some(Cow::Owned(pages))),
+            None => Ok(None),
+        }
+    }
+
     /// Returns the text in the requested form (CSL 1.0.2, Standard Variables).
     fn resolve_standard_variable(
         &self,

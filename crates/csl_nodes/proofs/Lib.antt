@@ -6,5 +6,6 @@ pub mod Outcomes
 mod PaddedNumbers
 mod DigitOrder
 mod KeyOrder
+mod AnswerInfos
 pub mod JoinedParts
 pub mod Theorems

@@ -159,6 +159,18 @@ resolved_info called (Some (number_result v n)) = info_of true (usage_flags true
 resolved_info called (Some (term bs)) = info_of true no_usage_flags
 resolved_info called (Some (value bs)) = info_of (not (length bs == 0)) no_usage_flags
 
+-- whether a resolved text prints: unless it is an empty text or value
+abbrev pub prints : ResolvedText → Bool
+prints (standard_text v cs) = not (is_empty cs)
+prints (number_result v n) = true
+prints (term bs) = true
+prints (value bs) = not (length bs == 0)
+
+-- the dry run of a text of a variable, by whether its answer prints, if it has one
+abbrev pub answer_info : Bool → Option Bool → Info
+answer_info called None = info_of false (usage_flags called false false false)
+answer_info called (Some prints) = info_of prints (usage_flags true prints false false)
+
 abbrev pub target_info : RenderInput → State → Target → Info
 target_info w s t = resolved_info (calls t) (resolved_text w s t)
 

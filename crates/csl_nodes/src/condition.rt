@@ -1,12 +1,14 @@
 //! The single tests of a branch (CSL 1.0.2, Choose). Their lookups are silent.
 
 ghost use Rattle.std.specs.Prelude.{◌≡◌, false, IfOk, OnOk, IfErr};
+ghost use Rattle.lit_model.specs.MaybeTyped.{maybe_view};
+ghost use Rattle.lit_model.specs.Page.{pages_view};
 ghost use Rattle.lit_model.specs.Text.{chunks};
 ghost use Rattle.csl_context.specs.Context.{FailsSilently, render_input};
 ghost use Rattle.csl_nodes.specs.Condition as spec;
 
 use csl_context::{Context, RenderError};
-use csl_entry::{EntryLike, IbidState, NumberVariableResult, as_deref};
+use csl_entry::{EntryLike, IbidState, NumberVariableResult, PageVariableResult, as_deref};
 use csl_style::{DateVariable, Kind, Locator, Scope, TestPosition, Variable};
 use lit_model::{ChunkedString, LongShortForm, MaybeTyped, Memory, Numeric};
 use std::alloc::Global;
@@ -17,6 +19,16 @@ fn is_number(alloc: Global, text: &ChunkedString) -> Result<bool, Memory>
 {
     let text = text.to_text(alloc)?;
     Ok(Numeric::is_spelled_by(text.as_str()))
+}
+
+/// Whether an answer to the page variable is pages and not a text.
+fn is_typed(pages: &PageVariableResult) -> bool
+    ensures { result ≡ spec.is_typed (maybe_view pages_view pages.now) }
+{
+    match pages {
+        MaybeTyped::Typed(_) => true,
+        MaybeTyped::String(_) => false,
+    }
 }
 
 /// Whether the cite's answer to the variable is numeric. No name and no date is.
@@ -42,9 +54,8 @@ pub(crate) fn is_numeric<'s, T: EntryLike>(
             Some(NumberVariableResult::Transparent(_)) => Ok(false),
             None => Ok(false),
         },
-        Variable::Page(variable) => match ctx.peek_page_variable(variable)? {
-            Some(MaybeTyped::Typed(_)) => Ok(true),
-            Some(MaybeTyped::String(_)) => Ok(false),
+        Variable::Page(variable) => match ctx.peek_pages(variable)? {
+            Some(pages) => Ok(is_typed(pages.as_ref())),
             None => Ok(false),
         },
         Variable::Name(_) | Variable::Date(_) => {
@@ -169,7 +180,7 @@ pub(crate) fn is_present<'s, T: EntryLike>(
             }
         }
         Variable::Number(variable) => Ok(ctx.peek_number_variable(variable)?.is_some()),
-        Variable::Page(variable) => Ok(ctx.peek_page_variable(variable)?.is_some()),
+        Variable::Page(variable) => Ok(ctx.peek_pages(variable)?.is_some()),
         Variable::Name(variable) => Ok(!ctx.peek_name_variable(variable)?.is_empty()),
         Variable::Date(variable) => {
             let found = ctx.peek_date_variable(variable)?;

@@ -1,8 +1,10 @@
 //! Labels (CSL 1.0.2, Label; Locators).
 
 ghost use Rattle.std.specs.Prelude.{◌≡◌, option_map};
+ghost use Rattle.lit_model.specs.MaybeTyped.{maybe_view};
+ghost use Rattle.lit_model.specs.Page.{pages_view};
 ghost use Rattle.csl_elements.specs.Names.{view_label};
-ghost use Rattle.csl_entry.specs.NumberResult.{result_view, number_or_page_view};
+ghost use Rattle.csl_entry.specs.NumberResult.{result_view};
 ghost use Rattle.csl_context.specs.Context.{GivesBy, render_input};
 ghost use Rattle.csl_nodes.specs.Label as spec;
 ghost use Rattle.csl_nodes.specs.Text.{Appends};
@@ -11,10 +13,10 @@ ghost use Rattle.csl_nodes.specs.Usage.{info_view};
 use crate::boxes::{NodeDressing, render_unquoted};
 use crate::dressing::Body;
 use crate::empty::push_nothing;
-use crate::number_or_page::peek_number_or_page;
+use crate::silent::{peek_number, peek_pages};
 use crate::usage::UsageInfo;
 use csl_context::{Context, RenderError};
-use csl_entry::{EntryLike, NumberOrPageVariableResult, NumberVariableResult, SpecialForm};
+use csl_entry::{EntryLike, NumberVariableResult, PageVariableResult, SpecialForm};
 use csl_style::{
     Label, LabelPluralize, Locator, NumberOrPageVariable, NumberVariable, Term, Variable,
 };
@@ -162,20 +164,36 @@ fn plural_number(counts: bool, found: &NumberVariableResult<'_>) -> bool
     }
 }
 
-/// Whether a label is in the plural beside an answer. Beside pages it is if the pages are, whatever
-/// the label sets.
-fn is_plural(label: &Label, found: &NumberOrPageVariableResult<'_>) -> bool
-    ensures { result ≡ spec.is_plural label.now.label.plural label.now.variable
-        (number_or_page_view found.now) }
+/// Whether a label is in the plural beside a number.
+fn is_plural_beside_number(label: &Label, found: &NumberVariableResult<'_>) -> bool
+    ensures { result ≡ spec.plural_by label.now.label.plural (spec.is_count label.now.variable)
+        (result_view found.now) }
+{
+    match label.label.plural {
+        LabelPluralize::Contextual => plural_number(is_count(label.variable), found),
+        LabelPluralize::Always => true,
+        LabelPluralize::Never => false,
+    }
+}
+
+/// Whether a label is in the plural beside pages: if the pages are, whatever the label sets.
+fn is_plural_beside_pages(found: &PageVariableResult) -> bool
+    ensures { result ≡ spec.plural_page (maybe_view pages_view found.now) }
 {
     match found {
-        NumberOrPageVariableResult::Number(number) => match label.label.plural {
-            LabelPluralize::Contextual => plural_number(is_count(label.variable), number),
-            LabelPluralize::Always => true,
-            LabelPluralize::Never => false,
-        },
-        NumberOrPageVariableResult::Page(MaybeTyped::Typed(pages)) => pages.is_plural(),
-        NumberOrPageVariableResult::Page(MaybeTyped::String(_)) => false,
+        MaybeTyped::Typed(pages) => pages.is_plural(),
+        MaybeTyped::String(_) => false,
+    }
+}
+
+/// The term of a label, in the singular or the plural, if it is found.
+fn term_text<'s, T: EntryLike>(ctx: &Context<'s, T>, label: &Label, plural: bool) -> Option<&'s str>
+    ensures { option_map (λ t. t.now) result ≡ spec.term_if (render_input T.answers ctx.now)
+        (view_label label.now.label) (spec.label_term ctx.now.cite label.now.variable) plural }
+{
+    match label_term(ctx, label.variable) {
+        Some(term) => ctx.term(term, label.label.form, plural),
+        None => None,
     }
 }
 
@@ -188,11 +206,14 @@ fn label_text<'s, T: EntryLike>(
         ctx.now)
         ctx.now.state label.now.variable (view_label label.now.label)) }
 {
-    match peek_number_or_page(ctx, label.variable)? {
-        Some(found) => match label_term(ctx, label.variable) {
-            Some(term) => Ok(ctx.term(term, label.label.form, is_plural(label, &found))),
+    match label.variable {
+        NumberOrPageVariable::Number(variable) => match peek_number(ctx, variable)? {
+            Some(found) => Ok(term_text(ctx, label, is_plural_beside_number(label, &found))),
             None => Ok(None),
         },
-        None => Ok(None),
+        NumberOrPageVariable::Page(variable) => match peek_pages(ctx, variable)? {
+            Some(found) => Ok(term_text(ctx, label, is_plural_beside_pages(found.as_ref()))),
+            None => Ok(None),
+        },
     }
 }

@@ -28,6 +28,7 @@ mod number;
 mod number_or_page;
 mod pages;
 mod resolved;
+mod silent;
 mod special_form;
 mod text;
 mod usage;

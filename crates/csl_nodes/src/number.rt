@@ -15,7 +15,8 @@ use crate::boxes::{NodeDressing, render_unquoted};
 use crate::charges::charge_answer;
 use crate::dressing::Body;
 use crate::empty::push_nothing;
-use crate::number_or_page::{number_node_text, peek_number_or_page, resolve_number_or_page};
+use crate::number_or_page::{number_node_text, resolve_number_or_page};
+use crate::silent::has_number_or_page;
 use crate::special_form::survives_only_forms;
 use crate::usage::UsageInfo;
 use csl_context::{Context, RenderError};
@@ -41,8 +42,7 @@ pub fn number_info<'s, T: EntryLike>(
     if !is_shown(ctx.special_form(), own, own) {
         return Ok(presence_info(false));
     }
-    let found = peek_number_or_page(ctx, number.variable)?;
-    Ok(presence_info(found.is_some()))
+    Ok(presence_info(has_number_or_page(ctx, number.variable)?))
 }
 
 /// Whether a number shows the variable `asked`.

@@ -24,28 +24,6 @@ pub(crate) enum NumberText {
     Transparent(usize),
 }
 
-/// Looks up a number or page variable silently.
-pub(crate) fn peek_number_or_page<'s, T: EntryLike>(
-    ctx: &Context<'s, T>,
-    variable: NumberOrPageVariable,
-) -> Result<Option<NumberOrPageVariableResult<'s>>, Memory>
-    ensures { GivesBy (option_map number_or_page_view) result
-        (spec.peek_number_or_page (render_input T.answers ctx.now) ctx.now.state variable) }
-{
-    match variable {
-        NumberOrPageVariable::Number(variable) => match ctx.peek_number_variable(variable) {
-            Ok(Some(number)) => Ok(Some(NumberOrPageVariableResult::Number(number))),
-            Ok(None) => Ok(None),
-            Err(_) => Err(Memory),
-        },
-        NumberOrPageVariable::Page(variable) => match ctx.peek_page_variable(variable) {
-            Ok(Some(pages)) => Ok(Some(NumberOrPageVariableResult::Page(pages))),
-            Ok(None) => Ok(None),
-            Err(_) => Err(Memory),
-        },
-    }
-}
-
 /// Looks up a number or page variable for printing.
 pub(crate) fn resolve_number_or_page<'s, T: EntryLike>(
     ctx: &mut Context<'s, T>,

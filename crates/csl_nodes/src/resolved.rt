@@ -8,11 +8,12 @@ ghost use Rattle.csl_elements.specs.Node.{of_variable, of_term, of_value};
 ghost use Rattle.csl_entry.specs.Answers.{cow_view};
 ghost use Rattle.csl_entry.specs.NumberResult.{number_or_page_view};
 ghost use Rattle.csl_context.specs.RenderInput.{peek_standard};
-ghost use Rattle.csl_context.specs.Context.{Runs, GivesBy, render_input};
+ghost use Rattle.csl_context.specs.Context.{Runs, Gives, GivesBy, render_input};
 ghost use Rattle.csl_nodes.specs.Text as spec;
 ghost use Rattle.csl_nodes.specs.Usage.{info_view};
 
-use crate::number_or_page::{peek_number_or_page, resolve_number_or_page};
+use crate::number_or_page::resolve_number_or_page;
+use crate::silent::{peek_number, peek_pages};
 use crate::special_form::{shows_terms_and_values, shows_variable};
 use crate::usage::UsageInfo;
 use csl_context::{Context, RenderError};
@@ -63,32 +64,31 @@ fn resolved_number<'a>(
     }
 }
 
-/// Resolves a text of the variable by a silent lookup.
-pub(crate) fn peek_text<'s, T: EntryLike>(
+/// Whether a text of the variable prints, if it resolves to an answer, by a silent lookup.
+pub(crate) fn peek_prints<'s, T: EntryLike>(
     ctx: &Context<'s, T>,
     form: LongShortForm,
     variable: Variable,
-) -> Result<Option<ResolvedText<'s>>, Memory>
-    ensures { GivesBy (option_map spec.resolved_view) result
-        (spec.resolved_text (render_input T.answers ctx.now) ctx.now.state (of_variable variable
-        form)) }
+) -> Result<Option<bool>, Memory>
+    ensures { Gives result (option_map spec.prints (spec.resolved_text (render_input T.answers
+        ctx.now) ctx.now.state (of_variable variable form))) }
 {
     if !shows_variable(ctx.special_form(), variable) {
         return Ok(None);
     }
     match variable {
         Variable::Standard(variable) => match peek_standard(ctx, form, variable)? {
-            Some(answer) => Ok(Some(ResolvedText::StandardText(variable, answer))),
+            Some(answer) => Ok(Some(!answer.as_ref().is_empty())),
             None => Ok(None),
         },
-        Variable::Number(variable) => {
-            let variable = NumberOrPageVariable::Number(variable);
-            Ok(resolved_number(variable, peek_number_or_page(ctx, variable)?))
-        }
-        Variable::Page(variable) => {
-            let variable = NumberOrPageVariable::Page(variable);
-            Ok(resolved_number(variable, peek_number_or_page(ctx, variable)?))
-        }
+        Variable::Number(variable) => match peek_number(ctx, variable)? {
+            Some(_) => Ok(Some(true)),
+            None => Ok(None),
+        },
+        Variable::Page(variable) => match peek_pages(ctx, variable)? {
+            Some(_) => Ok(Some(true)),
+            None => Ok(None),
+        },
         Variable::Name(_) | Variable::Date(_) => Ok(None),
     }
 }
@@ -159,6 +159,17 @@ pub(crate) fn resolved_value<'a, T: EntryLike>(
         Some(ResolvedText::Value(value))
     } else {
         None
+    }
+}
+
+/// The dry run of a text of a variable, by whether it prints if it resolves to an answer. `called`
+/// is whether a text that resolves to nothing calls its variable.
+pub(crate) fn answer_info(called: bool, prints: Option<bool>) -> (bool, UsageInfo)
+    ensures { info_view result ≡ spec.answer_info called prints }
+{
+    match prints {
+        None => (false, UsageInfo::of_variable(called, false)),
+        Some(prints) => (prints, UsageInfo::of_variable(true, prints)),
     }
 }
 

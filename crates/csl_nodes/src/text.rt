@@ -17,7 +17,8 @@ use crate::empty::push_nothing;
 use crate::links::{address, address_prefix, begins_link};
 use crate::number_or_page::text_node_text;
 use crate::resolved::{
-    ResolvedText, peek_text, resolve_text, resolved_info, resolved_term, resolved_value,
+    ResolvedText, answer_info, peek_prints, resolve_text, resolved_info, resolved_term,
+    resolved_value,
 };
 use crate::usage::UsageInfo;
 use csl_context::{Context, RenderError};
@@ -47,6 +48,7 @@ fn calls_variable(variable: Variable) -> bool
 /// # Errors
 /// [`Memory`]: out of memory, here or in the entry, or the context had failed already.
 #[inline(never)]
+#[tactic(auto, using(crate::proofs::AnswerInfos::answer_info_is))]
 pub fn variable_info<'s, T: EntryLike>(
     ctx: &Context<'s, T>,
     form: LongShortForm,
@@ -56,14 +58,15 @@ pub fn variable_info<'s, T: EntryLike>(
         ctx.now.state
         (of_variable variable form)) }
 {
-    let found = peek_text(ctx, form, variable)?;
-    Ok(resolved_info(calls_variable(variable), &found))
+    let found = peek_prints(ctx, form, variable)?;
+    Ok(answer_info(calls_variable(variable), found))
 }
 
 /// Whether a text of `variable` shows the variable `asked`.
 ///
 /// # Errors
 /// As [`variable_info`].
+#[tactic(auto, using(crate::proofs::AnswerInfos::is_found))]
 pub fn variable_shows<'s, T: EntryLike>(
     ctx: &Context<'s, T>,
     form: LongShortForm,
@@ -74,7 +77,7 @@ pub fn variable_shows<'s, T: EntryLike>(
         (spec.target_shows (render_input T.answers ctx.now)
         ctx.now.state asked (of_variable variable form)) }
 {
-    let found = peek_text(ctx, form, variable)?;
+    let found = peek_prints(ctx, form, variable)?;
     Ok(found.is_some() && variable == asked)
 }
 

@@ -1,5 +1,6 @@
 //! Works of a size. Each returns a checksum of what it made.
 
+mod asked;
 mod bibliography;
 pub mod cites;
 mod entry;
@@ -104,6 +105,8 @@ pub fn count(alloc: Global, name: &str, size: usize) -> Result<usize, WorkError>
         "long_delimiter" => limited::long_delimiter(alloc, size),
         "long_initials" => limited::long_initials(alloc, size),
         "numbers_of_ranges" => limited::numbers_of_ranges(alloc, size),
+        "labels_of_ranges" => asked::labels_of_ranges(alloc, size),
+        "tests_of_ranges" => asked::tests_of_ranges(alloc, size),
         _ => Err(WorkError::Unexpected("no such work")),
     }
 }

@@ -113,6 +113,18 @@ impl<'s, T: EntryLike> InstanceContext<'s, T> {
         self.entry.resolve_page_variable(alloc, variable)
     }
 
+    /// Returns the same as [`InstanceContext::resolve_page_variable`], lent if the entry holds it.
+    pub fn lend_pages(
+        &self,
+        alloc: Global,
+        variable: PageVariable,
+    ) -> Result<Option<Cow<'s, PageVariableResult>>, Memory>
+        ensures { IfOk result (λ found. option_map (cow_view (maybe_view pages_view)) found
+            ≡ spec.resolve_page (spec.instance_of T.answers self.now) variable) }
+    {
+        self.entry.lend_pages(alloc, variable)
+    }
+
     /// Returns the cite's answer to a variable that holds a number or pages: its answer to that
     /// number variable or page variable.
     pub fn resolve_number_or_page_variable(

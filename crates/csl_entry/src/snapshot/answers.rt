@@ -72,6 +72,14 @@ impl EntryLike for Snapshot {
         }
     }
 
+    fn lend_pages(
+        &self,
+        _alloc: Global,
+        variable: PageVariable,
+    ) -> Result<Option<Cow<'_, MaybeTyped<PageRanges>>>, Memory> {
+        Ok(answer_at(&self.pages, variable).map(Cow::Borrowed))
+    }
+
     fn resolve_standard_variable(
         &self,
         _alloc: Global,
