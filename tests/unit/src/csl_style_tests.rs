@@ -17,4 +17,5 @@ mod style;
 mod style_ordinals;
 mod term;
 mod term_names;
+mod told;
 mod variable_set;

@@ -6,7 +6,7 @@ use crate::names::variables::add_kind;
 use crate::question::OfLayout;
 use crate::tree_words::{add_value, add_word};
 use csl::style::{Layout, Named};
-use csl::{Style, named_by};
+use csl::{Style, named_beside, named_by, named_by_tests};
 use std::alloc::Global;
 
 /// Appends the answer about a layout.
@@ -21,6 +21,14 @@ pub fn add_of_layout(
         OfLayout::MissingTerms => add_missing(words, alloc, style, layout),
         OfLayout::MissingTerm => add_first_missing(words, style, layout),
         OfLayout::Named => add_named(words, alloc, style, layout),
+        OfLayout::Tested => {
+            let tested = named_by_tests(alloc, style, layout)?;
+            add_sets(words, alloc, &tested)
+        }
+        OfLayout::Told(variable) => {
+            let told = named_beside(alloc, style, layout, variable)?;
+            add_sets(words, alloc, &told)
+        }
         OfLayout::Size => add_size(words, style, layout),
         OfLayout::Depth => add_depth(words, style, layout),
         OfLayout::Above(most) => { add_whether(words, style.expanded_size(layout, most).is_none()) }

@@ -56,6 +56,10 @@ pub enum OfLayout {
     MissingTerm,
     /// The variables and kinds that it names.
     Named,
+    /// Those that tests of its branches name.
+    Tested,
+    /// Those that a cite of this variable alone may tell.
+    Told(Variable),
     /// Its size.
     Size,
     /// Its depth.
@@ -109,6 +113,15 @@ fn limits(alloc: Global, rest: &str) -> Result<(u64, u64, usize), Fault> {
     }
 }
 
+/// The question of what a cite of one variable may tell, and the wanted answer.
+fn told_question<'l>(alloc: Global, rest: &'l str) -> Result<(OfLayout, &'l str), Fault> {
+    let (name, wanted) = rest.split_once(": ").unwrap_or((rest, ""));
+    match Variable::from_name(name) {
+        Some(variable) => Ok((OfLayout::Told(variable), wanted)),
+        None => Err(Fault::of_word(alloc, "no variable", name)),
+    }
+}
+
 /// The question of a line about a layout, and the wanted answer.
 fn of_layout<'l>(
     alloc: Global,
@@ -119,6 +132,8 @@ fn of_layout<'l>(
         "missing" => (OfLayout::MissingTerms, rest),
         "missing-term" => (OfLayout::MissingTerm, rest),
         "named" => (OfLayout::Named, rest),
+        "tested" => (OfLayout::Tested, rest),
+        "told" => told_question(alloc, rest)?,
         "size" => (OfLayout::Size, rest),
         "depth" => (OfLayout::Depth, rest),
         "above" => (OfLayout::Above(limit(alloc, rest)?), "yes"),
