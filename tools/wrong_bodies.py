@@ -4,10 +4,10 @@ what a check of these functions says of each.
 edits/CRATE.edits has an entry for each edit: `## NAME`, with `[landing]` if each landing tries it,
 or `[same]` if it means the same as before; comments, lines that begin with `#`; `file:` and pairs
 of `old:` and `new:`, of one line each; then the inputs at which another answer comes, a `witness:`
-each: `row FILE.rows: TEXT`, a row of tests/rows that has this line, or `test NAME`, a test of
-tests/unit; or `twin: NAME`, an edit of the same function that means the same as before. An empty
-line ends an entry. The files of crates/CRATE/must-fail/ have the lines of one entry each, without
-its heading."""
+each: `row FILE.rows: TEXT`, a row of tests/rows that has this line, `test NAME`, a test of
+tests/unit, or `uses`, the examples of csl_uses; or `twin: NAME`, an edit of the same function that
+means the same as before. An empty line ends an entry. The files of crates/CRATE/must-fail/ have the
+lines of one entry each, without its heading."""
 import glob
 import os
 import re

@@ -2,18 +2,18 @@
 //! words alone do not cover. The expected texts are written by hand.
 
 use crate::csl_cli_tests::assertions::{assert_status, assert_text};
-use crate::csl_cli_tests::shared::{assert_plain, entries, state_words};
+use crate::csl_cli_tests::shared::{assert_plain, entries, state_words, title_only};
 use crate::csl_cli_tests::words::NATURE;
 use crate::shared::put;
 use csl_cli::run::run_into;
 use csl_common::TrackingWriter;
 use csl_context::{LeftState, Rendered};
-use csl_entry::{CiteProperties, DisambiguateState, SpeculativeCiteProperties};
+use csl_entry::{CiteProperties, DisambiguateState, EntryLike, SpeculativeCiteProperties};
 use csl_render::cite;
 use csl_samples::{BuiltIn, BuiltInStyle};
 use csl_style::{Kind, StandardVariable, Style, Variable};
 use csl_tree::{Formatted, Formatting};
-use lit_model::{Numeric, PageRanges, PageRangesPart};
+use lit_model::{LongShortForm, Numeric, PageRanges, PageRangesPart};
 use std::alloc::Global;
 use std::process::Abort;
 
@@ -102,6 +102,31 @@ fn parts_of_the_program(rt: HostRuntime) {
     assert_text(&rt, label.as_str(), "Ung15", &["label"]);
     let is_post = BuiltIn::Feminism.is_of_kind(alloc, Kind::PostWeblog);
     assert!(rt; is_post.expect(&rt, "memory"), "an article of a blog");
+}
+
+/// Whether an entry with this title alone, or without one, answers the title.
+fn has_title(rt: &impl Abort, alloc: Global, title: Option<&str>) -> bool {
+    let entry = title_only(rt, alloc, title);
+    let (form, variable) = (LongShortForm::Long, StandardVariable::Title);
+    let found = entry.resolve_standard_variable(alloc, form, variable);
+    let found = found.expect(rt, "memory").is_some();
+    drop(entry);
+    found
+}
+
+#[test]
+fn an_entry_without_a_title_answers_none(rt: HostRuntime) {
+    assert!(rt; has_title(&rt, rt.alloc(), Some("T")), "a title");
+    assert!(rt; !has_title(&rt, rt.alloc(), None), "no title");
+}
+
+#[test]
+fn built_in_styles_move_punctuation_into_quotes(rt: HostRuntime) {
+    for style in [BuiltInStyle::AuthorDate, BuiltInStyle::Reference] {
+        let style = style.style(rt.alloc()).expect(&rt, "memory");
+        assert!(rt; style.is_punctuation_in_quote(), "as in American English");
+        drop(style);
+    }
 }
 
 #[test]

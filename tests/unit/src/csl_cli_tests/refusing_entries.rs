@@ -8,9 +8,9 @@ use crate::csl_cli_tests::shared::{assert_plain, entries, instance};
 use crate::csl_cli_tests::without_memory::WithoutMemory;
 use csl_context::{Context, RenderError, Rendered};
 use csl_entry::{CiteProperties, DisambiguateState, EntryLike};
-use csl_render::{RenderCsl, cite};
+use csl_render::{BranchConditionIter, RenderCsl, cite};
 use csl_samples::{BuiltIn, BuiltInStyle};
-use csl_style::{DateVariable, NameVariable, NumberVariable, Scope, Style, Variable};
+use csl_style::{ChooseBranch, DateVariable, NameVariable, NumberVariable, Scope, Style, Variable};
 use lit_model::Entry;
 use std::alloc::Global;
 use std::process::Abort;
@@ -154,6 +154,63 @@ fn assert_rows(rt: &impl Abort, alloc: Global, style: BuiltInStyle, rows: &[Row]
 fn refusing_entries_by_author_and_date(rt: HostRuntime) {
     let style = BuiltInStyle::AuthorDate;
     assert_rows(&rt, rt.alloc(), style, &AUTHORS_AND_DATES);
+}
+
+/// A branch that tests the author and the date.
+fn of_authors_and_dates(rt: &impl Abort, alloc: Global) -> ChooseBranch {
+    let (author, date) = (NameVariable::Author, DateVariable::Issued);
+    let variables = vec![in alloc; Variable::Name(author), Variable::Date(date)];
+    ChooseBranch {
+        variable: Some(variables.expect(rt, "memory")),
+        ..ChooseBranch::new(Vec::new(alloc))
+    }
+}
+
+/// The results of both tests of a branch, for a cite of an entry.
+type Tests = [Option<Result<bool, RenderError>>; 2];
+
+fn tests_of<T: EntryLike>(
+    rt: &impl Abort,
+    alloc: Global,
+    style: &Style,
+    branch: &ChooseBranch,
+    entry: &T,
+) -> Tests {
+    let cite_props = CiteProperties::first(DisambiguateState::None);
+    let cite = instance(entry, &cite_props);
+    let ctx = Context::new(alloc, style, cite, Scope::Citation).expect(rt, "memory");
+    let mut tests = BranchConditionIter::from_branch(branch, &ctx);
+    let found = [tests.next(), tests.next()];
+    drop(tests);
+    drop(ctx);
+    found
+}
+
+/// The results of the tests for the author and the date of a book that refuses the lookup after the
+/// first `answered` ones.
+fn tests_after(rt: &impl Abort, alloc: Global, answered: u32) -> Tests {
+    let books = entries(rt, alloc, &[BuiltIn::CrazyRich]);
+    let style = BuiltInStyle::AuthorDate.style(alloc).expect(rt, "memory");
+    let branch = of_authors_and_dates(rt, alloc);
+    let refusing = WithoutMemory::behind(books.first().expect(rt, "a book"), answered);
+    let tests = tests_of(rt, alloc, &style, &branch, &refusing);
+    drop(refusing);
+    drop(branch);
+    drop(style);
+    drop(books);
+    tests
+}
+
+const HOLDS: Option<Result<bool, RenderError>> = Some(Ok(true));
+
+const REFUSED: Option<Result<bool, RenderError>> = Some(Err(RenderError::Memory));
+
+#[test]
+fn the_tests_of_a_branch_end_after_an_error(rt: HostRuntime) {
+    for (answered, wanted) in [(0, [REFUSED, None]), (1, [HOLDS, REFUSED])] {
+        let tests = tests_after(&rt, rt.alloc(), answered);
+        assert!(rt; tests == wanted, "refused after {answered} lookups");
+    }
 }
 
 #[test]

@@ -9,8 +9,8 @@ use crate::csl_context_tests::queries::{
 use crate::csl_context_tests::samples::{affixes, style};
 use crate::csl_context_tests::words::say;
 use crate::csl_context_tests::writes::{
-    affix, discard, dress, enter_formats, format, join, nest, quote_twice, space, splice, strip,
-    write_in, write_pieces,
+    affix, discard, dress, enter_formats, format, join, nest, place, quote_twice, space, splice,
+    strip, write_in, write_pieces,
 };
 use crate::shared::alone;
 use csl_context::{Context, RenderError, Rendered};
@@ -37,6 +37,7 @@ pub(crate) enum Act {
     WriteIn,
     Strip,
     WritePieces,
+    Place,
     Space,
     Delimit,
     EnterDelimiters,
@@ -67,6 +68,7 @@ fn perform(ctx: &mut Context<'_, Film>, affixes: &Affixes, act: Act) -> Result<(
         Act::WriteIn => write_in(ctx),
         Act::Strip => strip(ctx),
         Act::WritePieces => write_pieces(ctx),
+        Act::Place => place(ctx),
         Act::Space => space(ctx),
         Act::Delimit => delimit(ctx),
         Act::EnterDelimiters => enter_delimiters(ctx),
@@ -305,7 +307,7 @@ fn assert_words(rt: &impl Abort, said: &str, wanted: &str, act: Act) {
 }
 
 /// An act, and its rendering in the words of [`say`].
-static ACTS: [(Act, &str); 32] = [
+static ACTS: [(Act, &str); 33] = [
     (Act::Join, "ab"),
     // An element without content is dropped, whatever its display and its meta are.
     (Act::Nest("b"), "[ a [ b ]block:date ]"),
@@ -320,17 +322,18 @@ static ACTS: [(Act, &str); 32] = [
     (Act::Quote("A"), "(“A,”~"),
     (Act::Quote(""), ""),
     // A colon does not move, a period moves before the closing quote. Quotes after both are outer
-    // ones again.
-    (Act::QuoteTwice, "“‘B’.”“C”"),
+    // ones again. Nothing moves into empty quotes.
+    (Act::QuoteTwice, "“‘B’.”“C”no|"),
     // A body restores the formatting, the quotes and the periods around it.
     (Act::Dress("a.b."), "/(“ab,”~ c.d."),
     (Act::Dress(""), "c.d."),
-    (Act::Format, "/a /*b c"),
+    (Act::Format, "/a /*b /c d"),
     (Act::EnterFormats, "/a /*b /c d"),
     (Act::WriteIn, "/a *~ b"),
-    (Act::Strip, "abcd.no|yes|"),
+    (Act::Strip, "abcde.no|yes|"),
     // Verbatim texts, mathematics and links keep their periods. A link without text is not written.
     (Act::WritePieces, "ab. $c. @t.|u. #3"),
+    (Act::Place, "no|no|"),
     (Act::Space, "a~byes|no|yes|no|"),
     (Act::Delimit, ";~|none|;~|none|"),
     (Act::EnterDelimiters, ";~|none|;~|none|"),

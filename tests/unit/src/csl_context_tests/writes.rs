@@ -62,7 +62,7 @@ pub(crate) fn affix(
 }
 
 /// Writes a text in quotes in quotes, each before a suffix that is not written, and another text in
-/// quotes.
+/// quotes. Then writes whether the period of a suffix moves into empty quotes.
 pub(crate) fn quote_twice(ctx: &mut Context<'_, Film>) -> Result<(), RenderError> {
     let outer = ctx.push_quotes()?;
     let inner = ctx.push_quotes()?;
@@ -72,6 +72,9 @@ pub(crate) fn quote_twice(ctx: &mut Context<'_, Film>) -> Result<(), RenderError
     let other = ctx.push_quotes()?;
     ctx.push_str("C")?;
     ctx.pop_quotes(other, None)?;
+    let nothing = ctx.push_quotes()?;
+    let moved = ctx.pop_quotes(nothing, Some(". "))?;
+    put(ctx, yes(moved))?;
     Ok(())
 }
 
@@ -89,15 +92,16 @@ fn bold() -> formatting::Formatting {
     }
 }
 
-/// Writes a text in italics, one in bold italics, and one in neither.
+/// Writes a text in italics, one in bold italics, one in italics again, and one in neither.
 pub(crate) fn format(ctx: &mut Context<'_, Film>) -> Result<(), RenderError> {
     ctx.push_format(italic())?;
     ctx.push_str("a")?;
     ctx.push_format(bold())?;
     ctx.push_str("b")?;
     ctx.pop_format();
-    ctx.pop_format();
     ctx.push_str("c")?;
+    ctx.pop_format();
+    ctx.push_str("d")?;
     Ok(())
 }
 
@@ -160,15 +164,17 @@ pub(crate) fn dress(
     Ok(())
 }
 
-/// Writes texts that lose their periods, one that keeps them, and the results of
-/// [`Context::may_strip_periods`].
+/// Writes texts that lose their periods, inside and after an inner node too, one that keeps them, and
+/// the results of [`Context::may_strip_periods`].
 pub(crate) fn strip(ctx: &mut Context<'_, Film>) -> Result<(), RenderError> {
     let before = ctx.may_strip_periods(true);
     ctx.push_str("a.b.")?;
     let within = ctx.may_strip_periods(false);
     ctx.push_str("c.")?;
-    ctx.stop_stripping_periods(before);
+    ctx.stop_stripping_periods(within);
     ctx.push_str("d.")?;
+    ctx.stop_stripping_periods(before);
+    ctx.push_str("e.")?;
     put(ctx, yes(before))?;
     put(ctx, yes(within))?;
     Ok(())
@@ -197,6 +203,18 @@ fn write_title(ctx: &mut Context<'_, Film>) -> Result<(), RenderError> {
         Some(title) => ctx.push_chunked(title.as_ref()),
         None => ctx.ensure_live(),
     }
+}
+
+/// Writes whether a part with a place for the caller alone is empty, and whether it has text.
+pub(crate) fn place(ctx: &mut Context<'_, Film>) -> Result<(), RenderError> {
+    let part = ctx.push_elem()?;
+    ctx.push_transparent(0)?;
+    let is_empty = ctx.open_part_is_empty();
+    let has_text = ctx.open_part_has_text();
+    ctx.discard_elem(part);
+    put(ctx, yes(is_empty))?;
+    put(ctx, yes(has_text))?;
+    Ok(())
 }
 
 /// Calls [`Context::ensure_space`] before a text, and twice between it and a second one. Writes

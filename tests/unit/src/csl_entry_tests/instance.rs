@@ -9,8 +9,8 @@ use csl_elements::{
 };
 use csl_entry::{
     CertainCiteProperties, CitationNumber, CiteProperties, DisambiguateState, EntryLike, IbidState,
-    InstanceContext, LocatorPayload, NoteNumber, NumberVariableResult, SpecificLocator,
-    SpeculativeCiteProperties,
+    InstanceContext, LocatorPayload, NoteNumber, NumberVariableResult, Sorting, SpecialForm,
+    SpecificLocator, SpeculativeCiteProperties,
 };
 use lit_model::{
     ChunkedString, Date, LongShortForm, MaybeTyped, Memory, Numeric, NumericDelimiter,
@@ -289,6 +289,32 @@ fn text(
     let text = text_in(rt, alloc, &samples, &props, form, variable);
     drop(props);
     text
+}
+
+/// What a copy of a cite is rendered for: sorting by a macro, and a special form.
+fn copied_kinds<'s>(
+    rt: &impl Abort,
+    samples: &'s [Sample],
+    props: &'s CiteProperties<'s>,
+) -> (Option<Sorting>, Option<SpecialForm>) {
+    let cite = InstanceContext {
+        sorting: Some(Sorting::Macro),
+        kind: Some(SpecialForm::SuppressAuthor),
+        ..instance(only(rt, samples), props)
+    };
+    let copy = cite.clone().expect(rt, "memory");
+    (copy.sorting, copy.kind)
+}
+
+#[test]
+fn a_copy_of_a_cite_is_sorted_and_in_the_same_form(rt: HostRuntime) {
+    let samples = samples(&rt, rt.alloc(), "`Nature");
+    let props = properties(&rt, None, None, DisambiguateState::None);
+    let kinds = copied_kinds(&rt, &samples, &props);
+    let wanted = (Some(Sorting::Macro), Some(SpecialForm::SuppressAuthor));
+    assert_same(&rt, &kinds, &wanted);
+    drop(props);
+    drop(samples);
 }
 
 /// The pages that the cite answers.

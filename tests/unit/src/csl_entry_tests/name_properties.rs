@@ -168,7 +168,7 @@ fn names_are_added_in_the_first_list_of_so_many(rt: HostRuntime) {
 /// call is not allowed. The variables are the author, the editor, and the author once more.
 type ListRow = (&'static str, NameVariable, &'static [usize], &'static str);
 
-static LISTS: [ListRow; 17] = [
+static LISTS: [ListRow; 18] = [
     ("-s S", NameVariable::Author, &[0], "S Ss S true"),
     ("-s S", NameVariable::Author, &[1], "S -l S true"),
     ("-s S", NameVariable::Author, &[1, 1], "S -L S true"),
@@ -176,6 +176,7 @@ static LISTS: [ListRow; 17] = [
     ("-s S", NameVariable::Author, &[], "S -s S false"),
     ("-s S", NameVariable::Editor, &[0], "S -s L true"),
     ("-s S", NameVariable::Editor, &[1], "refused"),
+    ("-s S", NameVariable::Chair, &[0], "S -s S false"),
     ("-s S", NameVariable::Chair, &[7], "S -s S false"),
     ("cL S", NameVariable::Author, &[0, 1], "S cL S false"),
     ("cl S", NameVariable::Author, &[0, 1], "S cL S true"),

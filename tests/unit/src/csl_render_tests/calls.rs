@@ -1,13 +1,16 @@
 //! Calls of functions that allocate, each with ample memory: the bibliography entry of a book, the
-//! choice of nodes, the tests of a branch and whether it holds, and the sort key of a date.
+//! choice of nodes, the tests of a branch and whether it holds, the sort key of a date, and a text
+//! after a layout.
 
 use csl_context::Context;
 use csl_entry::{CiteProperties, DisambiguateState, InstanceContext};
 use csl_nodes::branch_holds;
-use csl_render::{BranchConditionIter, bibliography_entry, choose_children, full_sort_key};
+use csl_render::{
+    BranchConditionIter, RenderCsl, bibliography_entry, choose_children, full_sort_key,
+};
 use csl_style::{
-    Choose, ChooseBranch, Layout, LayoutRenderingElement, Scope, StandardVariable, Style,
-    StyleSettings, Text, Variable,
+    Choose, ChooseBranch, Formatting, Layout, LayoutRenderingElement, Scope, StandardVariable,
+    Style, StyleSettings, Text, Variable,
 };
 use csl_tree::BufWriteFormat;
 use lit_model::{Date, Entry, EntryType};
@@ -128,6 +131,23 @@ fn count_of(
     }
 }
 
+/// The HTML of a cite by a layout, and of a text after it in the same context.
+fn html_with_a_text_after(
+    rt: &impl Abort,
+    alloc: Global,
+    style: &Style,
+    layout: &Layout,
+    cite: InstanceContext<'_, Entry>,
+) -> String {
+    let mut ctx = Context::new(alloc, style, cite, Scope::Citation).expect(rt, "memory");
+    layout.render(&mut ctx).expect(rt, "memory");
+    ctx.push_str("x").expect(rt, "memory");
+    let rendered = ctx.finish().expect(rt, "memory");
+    let html = rendered.content.to_text(alloc, BufWriteFormat::Html);
+    drop(rendered);
+    html.expect(rt, "memory")
+}
+
 #[test]
 fn a_bibliography_entry_is_rendered(rt: HostRuntime) {
     let style = style(&rt, rt.alloc());
@@ -158,6 +178,29 @@ fn a_choice_takes_the_nodes_of_a_branch(rt: HostRuntime) {
     let count = count_of(&rt, rt.alloc(), &style, &choose, cite);
     assert!(rt; count == 1, "the title is taken");
     drop(choose);
+    drop(style);
+    drop(entry);
+}
+
+#[test]
+fn a_text_after_a_layout_is_not_in_its_formatting(rt: HostRuntime) {
+    let style = style(&rt, rt.alloc());
+    let entry = book(&rt, rt.alloc());
+    let cite_props = CiteProperties::first(DisambiguateState::None);
+    let cite = InstanceContext {
+        entry: &entry,
+        cite_props: &cite_props,
+        sorting: None,
+        kind: None,
+    };
+    let layout = Layout {
+        formatting: Formatting::italic(),
+        ..Layout::new(title_nodes(&rt, rt.alloc()))
+    };
+    let html = html_with_a_text_after(&rt, rt.alloc(), &style, &layout, cite);
+    let wanted = "<span style=\"font-style: italic;\">T</span>x";
+    assert_eq!(rt; html.as_str(), wanted);
+    drop(layout);
     drop(style);
     drop(entry);
 }

@@ -6,8 +6,8 @@ use csl_style::{GrammarGender, OrdinalSlot, Style};
 use std::alloc::Global;
 use std::process::Abort;
 
-/// A style with a suffix and two words for 3, and with a default suffix, after a locale without
-/// ordinals. Of two suffixes for the same numbers, the first counts.
+/// A style with two suffixes and two words for 3, of which one is feminine, and with a default suffix,
+/// after a locale without ordinals. Of two suffixes for the same numbers, the first counts.
 const ROWS: &[LocaleRows<'static>] = &[
     SILENT,
     LocaleRows {
@@ -15,6 +15,12 @@ const ROWS: &[LocaleRows<'static>] = &[
             (OrdinalSlot::Default, None, None, "th"),
             (OrdinalSlot::Two(3), None, None, "rd"),
             (OrdinalSlot::Two(3), None, None, "d"),
+            (
+                OrdinalSlot::Two(3),
+                None,
+                Some(GrammarGender::Feminine),
+                "a",
+            ),
             (OrdinalSlot::Long(3), None, None, "third"),
             (
                 OrdinalSlot::Long(3),
@@ -58,8 +64,10 @@ fn assert_all(rt: &impl Abort, style: &Style) {
 fn assert_style(rt: &impl Abort, alloc: Global) {
     let style = style_of(rt, alloc, ROWS);
     assert_all(rt, &style);
-    let word = style.ordinals().word(3, Some(GrammarGender::Feminine));
-    assert_text(rt, word, Some("terza"));
+    let feminine = Some(GrammarGender::Feminine);
+    assert_text(rt, style.ordinals().word(3, feminine), Some("terza"));
+    assert_text(rt, style.ordinal(3, feminine), Some("a"));
+    assert_text(rt, style.ordinal(3, None), Some("rd"));
     drop(style);
 }
 

@@ -258,6 +258,39 @@ fn calls_take_bytes_of_a_limit(rt: HostRuntime) {
     }
 }
 
+/// The tree of a text of one byte, for whose own 64 there is no room, and whether the call succeeds.
+fn refused_text(rt: &impl Abort, alloc: Global) -> (ElemChildren, bool) {
+    let mut tree = FlatTree::new(alloc);
+    tree.limit(64);
+    let is_written = tree.push_text("a", Formatting::default()).is_ok();
+    (contents(rt, tree), is_written)
+}
+
+#[test]
+fn a_text_beyond_the_limit_is_not_there(rt: HostRuntime) {
+    let (tree, is_written) = refused_text(&rt, rt.alloc());
+    assert_same(&rt, &is_written, &false);
+    assert_tree(&rt, rt.alloc(), tree, "", "a text of 65 bytes");
+}
+
+/// The tree `a ( b )`, whose element is closed without room for it, and then with room, and whether
+/// both calls succeed.
+fn closed_twice(rt: &impl Abort, alloc: Global) -> (ElemChildren, bool, bool) {
+    let mut tree = tree_of(rt, alloc, "a [ b");
+    tree.limit(63);
+    let first = tree.close_elem(None, None).is_ok();
+    tree.limit(64);
+    let second = tree.close_elem(None, None).is_ok();
+    (contents(rt, tree), first, second)
+}
+
+#[test]
+fn a_part_that_cannot_be_closed_keeps_its_children(rt: HostRuntime) {
+    let (tree, first, second) = closed_twice(&rt, rt.alloc());
+    assert_same(&rt, &(first, second), &(false, true));
+    assert_tree(&rt, rt.alloc(), tree, "a ( b )", "an element of 64 bytes");
+}
+
 #[test]
 fn a_call_beyond_the_limit_leaves_the_content(rt: HostRuntime) {
     let alloc = rt.alloc();

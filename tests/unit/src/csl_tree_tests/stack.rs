@@ -39,14 +39,14 @@ fn assert_items(rt: &impl Abort, items: &[u8], wanted: &[u8]) {
     assert_same(rt, &items, &wanted);
 }
 
-/// The results of two calls of `pop` on a stack of the default item and 7, the last item after
-/// them, and all remaining items.
-fn pop_twice(rt: &impl Abort, alloc: Global) -> (Option<u8>, Option<u8>, u8, Vec<u8>) {
+/// Asserts the results of two calls of `pop` on a stack of the default item and 7. Returns the last
+/// item after them, and all remaining items.
+fn pop_twice(rt: &impl Abort, alloc: Global) -> (u8, Vec<u8>) {
     let mut stack: NonEmptyStack<u8> = NonEmptyStack::with_default(alloc).expect(rt, "memory");
     push(rt, &mut stack, 7);
-    let first = stack.pop();
-    let second = stack.pop();
-    (first, second, *stack.last(), items(rt, alloc, &stack))
+    assert_same(rt, &stack.pop(), &Some(7));
+    assert_same(rt, &stack.pop(), &None);
+    (*stack.last(), items(rt, alloc, &stack))
 }
 
 /// The stack 1, 2, 3, 4 with its last, its first and its last odd item overwritten, and whether an
@@ -98,9 +98,7 @@ fn a_stack_keeps_its_last_item(rt: HostRuntime) {
     assert_same(&rt, &len, &4);
     assert_items(&rt, taken.as_slice(), &[3, 4]);
     assert_items(&rt, left.as_slice(), &[1, 2]);
-    let (first, second, last, kept) = pop_twice(&rt, rt.alloc());
-    assert_same(&rt, &first, &Some(7));
-    assert_same(&rt, &second, &None);
+    let (last, kept) = pop_twice(&rt, rt.alloc());
     assert_same(&rt, &last, &0);
     assert_items(&rt, kept.as_slice(), &[0]);
     let (items, was_odd) = write_items(&rt, rt.alloc());

@@ -33,9 +33,10 @@ fn assert_part(rt: &impl Abort, alloc: Global, (asked, name): (Asked, &str), wan
 }
 
 /// A name, its particle, and the name without it.
-static PARTICLES: [(&str, &str, &str); 8] = [
+static PARTICLES: [(&str, &str, &str); 9] = [
     ("van der Berg", "van der", "Berg"),
     ("van Gogh", "van", "Gogh"),
+    ("van der", "van", "der"),
     ("della", "none", "della"),
     ("Berg van", "none", "Berg van"),
     ("van  Gogh", "van", " Gogh"),
@@ -145,6 +146,64 @@ fn is_group_its_copy(rt: &impl Abort, alloc: Global, loses_names: bool) -> (bool
         group.names = Vec::new(alloc);
     }
     (same_group(&copy, &group), copy.role == PersonRole::Writer)
+}
+
+/// Each role but [`PersonRole::Unknown`].
+fn roles(rt: &impl Abort, alloc: Global) -> Vec<PersonRole> {
+    let roles = [
+        PersonRole::Translator,
+        PersonRole::Afterword,
+        PersonRole::Foreword,
+        PersonRole::Introduction,
+        PersonRole::Annotator,
+        PersonRole::Commentator,
+        PersonRole::Holder,
+        PersonRole::Compiler,
+        PersonRole::Founder,
+        PersonRole::Collaborator,
+        PersonRole::Organizer,
+        PersonRole::CastMember,
+        PersonRole::Composer,
+        PersonRole::Producer,
+        PersonRole::ExecutiveProducer,
+        PersonRole::Writer,
+        PersonRole::Cinematography,
+        PersonRole::Director,
+        PersonRole::Illustrator,
+        PersonRole::Narrator,
+    ];
+    Vec::from_array(alloc, roles).expect(rt, "memory")
+}
+
+/// Whether a role is equal to its copy.
+fn is_role_its_copy(rt: &impl Abort, alloc: Global, role: &PersonRole) -> bool {
+    let copy = role.clone(alloc).expect(rt, "memory");
+    same_role(role, &copy)
+}
+
+#[test]
+fn a_copy_of_a_role_is_the_role(rt: HostRuntime) {
+    for role in &roles(&rt, rt.alloc()) {
+        assert_whether(&rt, is_role_its_copy(&rt, rt.alloc(), role), true, "a role");
+    }
+}
+
+/// Whether a person with a comma before `Jr.` is equal to a copy.
+fn is_junior_its_copy(rt: &impl Abort, alloc: Global) -> bool {
+    let suffix = String::from_str(alloc, "Jr.").expect(rt, "memory");
+    let junior = Person {
+        suffix: Some(suffix),
+        comma_suffix: true,
+        ..van_gogh(rt, alloc)
+    };
+    let copy = junior.clone(alloc).expect(rt, "memory");
+    same_person(&junior, &copy)
+}
+
+#[test]
+fn a_copy_of_a_person_has_the_comma_before_the_suffix(rt: HostRuntime) {
+    let is_same = is_junior_its_copy(&rt, rt.alloc());
+    assert_whether(&rt, is_same, true, "a person with a suffix");
 }
 
 /// Whether a person is equal to a copy. With `loses_given_name`, the copy has no given name.
