@@ -1,17 +1,18 @@
 //! What nodes of a style take of a context's limit: each text its bytes, each leaf and element 64
 //! more, each number 24 before its text is made, the persons of an element their texts.
 
-use crate::assertions::{assert_of, assert_same};
+use crate::assertions::{assert_of, assert_same, assert_text};
 use crate::csl_tests::lists::layout;
 use crate::shared::alone;
 use csl::literature::{EntryType, MaybeTyped, Numeric, PageRanges, Person};
+use csl::render::render_within;
 use csl::style::{
     InheritableNameOptions, LayoutRenderingElement, Name, NameVariable, Names, Number,
-    NumberVariable, PageVariable, StyleSettings, Text,
+    NumberVariable, PageVariable, StandardVariable, StyleSettings, Text,
 };
 use csl::{
     CiteProperties, Context, DisambiguateState, Entry, InstanceContext, RenderCsl, RenderError,
-    Scope, Style,
+    Rendered, Scope, Style,
 };
 use std::alloc::Global;
 use std::process::Abort;
@@ -150,4 +151,50 @@ fn names_take_bytes_for_their_persons(rt: HostRuntime) {
     // A leaf of "K. Kwan"; five times the text after an initial.
     let short = 64 + 64 + 64 + 7 + 9 + 5;
     assert_taken(&rt, alloc, short, authors(&rt, alloc, Some(".")).into());
+}
+
+/// Renders the title of the book, within a room.
+fn title_within(
+    alloc: Global,
+    style: &Style,
+    book: &Entry,
+    room: &mut u64,
+) -> Result<Rendered, RenderError> {
+    let first = CiteProperties::first(DisambiguateState::None);
+    let instance = InstanceContext {
+        entry: book,
+        cite_props: &first,
+        sorting: None,
+        kind: None,
+    };
+    render_within(
+        alloc,
+        style,
+        style.citation(),
+        instance,
+        Scope::Citation,
+        room,
+    )
+}
+
+#[test]
+fn a_rendering_leaves_the_rest_of_its_room(rt: HostRuntime) {
+    let alloc = rt.alloc();
+    let title = Text::variable(StandardVariable::Title.into());
+    let style = style_of(&rt, alloc, title.into());
+    let book = book(&rt, alloc);
+    // An element; a leaf of "Rich".
+    let taken = 64 + 64 + 4;
+    let mut room = taken + 1;
+    let rendered = title_within(alloc, &style, &book, &mut room).expect(&rt, "room");
+    let text = format!(in alloc; "{}", rendered.content).expect(&rt, "memory");
+    drop(rendered);
+    assert_text(&rt, Some(text.as_str()), Some("Rich"));
+    assert_same(&rt, &room, &1);
+    room = taken - 1;
+    let refused = title_within(alloc, &style, &book, &mut room).err();
+    assert_same(&rt, &refused, &Some(RenderError::Memory));
+    assert_same(&rt, &room, &0);
+    drop(style);
+    drop(book);
 }
