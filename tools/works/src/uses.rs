@@ -23,11 +23,15 @@ use csl_uses::whole_list::whole_list;
 use std::alloc::Global;
 use std::collections::HashMap;
 
-/// Writes the label of the book and both titles.
+/// Writes the labels of the book and of one by a single author, the month of the book, from 0, and
+/// both titles.
 fn show_texts(out: &mut String, alloc: Global, book: &Entry, film: &Film) -> Result<(), WorkError> {
     let label = book_label(alloc, book)?;
+    let other = book_label(alloc, &book_by_miller(alloc, "Anna")?)?;
+    let month = book.date.as_ref().and_then(|date| date.month());
     let titles = (title_of(alloc, book)?, title_of(alloc, film)?);
-    writeln!(out, "label: {label}")?;
+    writeln!(out, "labels: {label}, {other}")?;
+    writeln!(out, "month: {month:?}")?;
     writeln!(out, "titles: {}, {}", titles.0, titles.1)?;
     Ok(())
 }
@@ -191,14 +195,18 @@ fn show_likeness(
     Ok(())
 }
 
-/// Writes a content with its links to web addresses, and with those to another host alone.
+/// Writes a content with its links to web addresses, with those to another host alone, and one with an
+/// address of that host that is not of the web.
 fn show_kept_links(out: &mut String, alloc: Global) -> Result<(), WorkError> {
-    let content = with_web_links(alloc, unfinished::with_address(alloc)?)?;
-    let html = content.to_text(alloc, BufWriteFormat::Html)?;
+    let content = unfinished::with_address(alloc, "https://example.org/a")?;
+    let html = with_web_links(alloc, content)?.to_text(alloc, BufWriteFormat::Html)?;
     writeln!(out, "links to the web: {html}")?;
-    let content = with_links_to(alloc, unfinished::with_address(alloc)?, &["www.w3.org"])?;
-    let html = content.to_text(alloc, BufWriteFormat::Html)?;
-    writeln!(out, "links to www.w3.org: {html}")?;
+    for address in ["https://example.org/a", "ftp://www.w3.org/a"] {
+        let content = unfinished::with_address(alloc, address)?;
+        let content = with_links_to(alloc, content, &["www.w3.org"])?;
+        let html = content.to_text(alloc, BufWriteFormat::Html)?;
+        writeln!(out, "links to www.w3.org: {html}")?;
+    }
     Ok(())
 }
 

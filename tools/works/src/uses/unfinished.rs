@@ -24,7 +24,7 @@ static TEXTS: [&[&str]; 8] = [
 /// A link if the text is an address, and else an element.
 fn child(alloc: Global, text: &str) -> Result<ElemChild, Error> {
     let formatted = Formatting::default().add_text(String::from_str(alloc, text)?);
-    if text.starts_with("https:") {
+    if text.contains("://") {
         let url = String::from_str(alloc, text)?;
         return Ok(ElemChild::Link {
             text: formatted,
@@ -48,8 +48,8 @@ fn content(alloc: Global, texts: &[&str]) -> Result<ElemChildren, Error> {
 }
 
 /// A text, an address that is a link, and a period.
-pub fn with_address(alloc: Global) -> Result<ElemChildren, Error> {
-    content(alloc, &["See ", "https://example.org/a", "."])
+pub fn with_address(alloc: Global, address: &'static str) -> Result<ElemChildren, Error> {
+    content(alloc, &["See ", address, "."])
 }
 
 /// A style whose locale leaves commas and periods outside of quotes.
