@@ -107,6 +107,7 @@ pub fn count(alloc: Global, name: &str, size: usize) -> Result<usize, WorkError>
         "numbers_of_ranges" => limited::numbers_of_ranges(alloc, size),
         "labels_of_ranges" => asked::labels_of_ranges(alloc, size),
         "tests_of_ranges" => asked::tests_of_ranges(alloc, size),
+        "ordinals_of_numbers" => limited::ordinals_of_numbers(alloc, size),
         _ => Err(WorkError::Unexpected("no such work")),
     }
 }

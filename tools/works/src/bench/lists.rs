@@ -10,7 +10,7 @@ use crate::bench::strangers::{DEPTH, ITEMS, allowed, parts_named, repeated, room
 use crate::bench::styles::call;
 use crate::error::WorkError;
 use crate::nodes::{style, title};
-use csl::literature::{MaybeTyped, Numeric};
+use csl::literature::{Entry, MaybeTyped, Numeric};
 use csl::style::{
     Choose, ChooseBranch, CslMacro, Date, DateForm, DatePart, DatePartName, DateVariable, EtAl,
     GrammarGender, Layout, LayoutRenderingElement, Locale, Name, NameVariable, Names, NamesChild,
@@ -168,7 +168,10 @@ fn ordinal(
 }
 
 /// Editions as ordinals that fill the layout.
-fn ordinal_editions(alloc: Global, size: usize) -> Result<Vec<LayoutRenderingElement>, WorkError> {
+pub fn ordinal_editions(
+    alloc: Global,
+    size: usize,
+) -> Result<Vec<LayoutRenderingElement>, WorkError> {
     repeated(alloc, room(size, 0, 1), || {
         let edition = Number {
             form: NumberForm::Ordinal,
@@ -206,7 +209,7 @@ pub fn locale_ordinals(alloc: Global, size: usize) -> Result<usize, WorkError> {
 
 /// A locale of an ordinal for each slot from 0 to 99, each match and each gender, 1,200 in all. The term
 /// of an edition is feminine.
-fn many_ordinals(alloc: Global) -> Result<Locale, WorkError> {
+pub fn many_ordinals(alloc: Global) -> Result<Locale, WorkError> {
     let mut locale = Locale::new(alloc);
     let matches = [
         Some(OrdinalMatch::WholeNumber),
@@ -235,6 +238,14 @@ fn many_ordinals(alloc: Global) -> Result<Locale, WorkError> {
     Ok(locale)
 }
 
+/// An article whose edition is `size` numbers.
+pub fn editions_of(alloc: Global, size: usize) -> Result<Entry, WorkError> {
+    let mut article = article(alloc, 1)?;
+    let text = repetition(alloc, "1007, ", size.saturating_sub(1), "1007")?;
+    article.edition = Some(MaybeTyped::Typed(Numeric::parse(alloc, text.as_str())?));
+    Ok(article)
+}
+
 /// Renders editions of `size` numbers as ordinals that fill the layout for strangers, in a locale of
 /// 1,200 ordinals, and counts the bytes of the plain text.
 pub fn ordinal_parts(alloc: Global, size: usize) -> Result<usize, WorkError> {
@@ -244,10 +255,7 @@ pub fn ordinal_parts(alloc: Global, size: usize) -> Result<usize, WorkError> {
     if allowed(alloc, &style)? == 0 {
         return Err(WorkError::Unexpected("above the limits"));
     }
-    let mut article = article(alloc, 1)?;
-    let text = repetition(alloc, "1007, ", size.saturating_sub(1), "1007")?;
-    article.edition = Some(MaybeTyped::Typed(Numeric::parse(alloc, text.as_str())?));
-    text_size(alloc, &style, &article)
+    text_size(alloc, &style, &editions_of(alloc, size)?)
 }
 
 /// `size` empty locales.
