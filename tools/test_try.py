@@ -128,11 +128,14 @@ HOSTILE_BODY = """<h1>Numbers in brackets</h1>
 """
 # Names of variables, each a megabyte long.
 LONG_NAMES = ["x" * 1_000_000 + str(it) for it in range(10)]
-# Styles in rows that cost the most, and what is told of them.
+# Styles in rows that cost the most, and what is told of them: macros that each call the next, or twice.
 CHAIN = " ".join(f"(macro name=m{it} (text macro=m{it + 1}))" for it in range(1_800))
+DOUBLED = " ".join(f"(macro name=m{it} {f'(text macro=m{it + 1}) ' * 2})" for it in range(40))
+KEY = "(citation title) (sort citation (key macro=m0))"
 DEEP, WIDE = "lists are more than 200 levels deep", "a list has more than 100 attributes"
 COSTLY = [
-    (f"{CHAIN} (citation (text macro=m0))", "the style is too large"),
+    *((f"{macros} {last}", "the style is too large")
+      for macros in (CHAIN, DOUBLED) for last in ("(citation (text macro=m0))", KEY)),
     (f"{CHAIN} {CHAIN}", f"as rows it has {LARGE}"),
     (f"(citation '{'a' * 1_000_000}')", "more than 1 MB: leave only the line `base`"),
     (f"(citation {'(group ' * 199}title{')' * 200}", "the style is too large"),
@@ -326,22 +329,13 @@ class TrialTests:
         self.row("no control characters", set(re.findall("[\0-\x1f\x7f-\x9f\u202e\u2028]", text)), {"\n"})
 
     def test_missing(self) -> None:
-        """A macro and a term that are missing are told, and so is a style that is too large, if only for
-        a sort key."""
+        """A macro and a term that are missing are told."""
         path = self.file("missing.rows", 'base (citation title (text macro=no) (text term=in))\n')
         told = [f"{path}: the {it} is missing: it prints nothing" for it in ("macro `no`", "term `in`")]
         self.row("what is missing", self.faults(path)[2], told)
         path = self.file("doubled.rows", 'base (citation (group delimiter=. "a." "b  c...d   e"))\n')
         told = [f"{path}: {it} are doubled where parts meet: 8 places" for it in ("periods", "spaces")]
         self.row("what is doubled", self.faults(path)[2], told)
-        twice = (f"(text macro=m{it}) (text macro=m{it})" for it in range(1, 41))
-        macros = " ".join(f"(macro name=m{place} {it})" for place, it in enumerate(twice))
-        macros += " (macro name=m40 title)"
-        path = self.file("large.rows", f"base {macros} (citation (text macro=m0))\n")
-        self.row("a large layout", self.faults(path), (1, "", [f"{path}: the style is too large"]))
-        keys = "(citation title) (sort citation (key macro=m0))"
-        path = self.file("large_key.rows", f"base {macros} {keys}\n")
-        self.row("a large sort key", self.faults(path), (1, "", [f"{path}: the style is too large"]))
 
     def test_hostile_sizes(self) -> None:
         """Files that cost the most, each of which may cost five seconds of a core."""
@@ -354,6 +348,10 @@ class TrialTests:
         told = [f"{path}:{line}: b: `{'x' * 60}..`: the variable is unknown"
                 for line in range(18, 28)]
         self.row("long names", self.cheap(style, path), (1, "", told))
+        path = self.file("hostile.json", json.dumps([{**BOOK, "title": "x" * 5_000}]))
+        rows = self.file("hostile.rows", f"base (citation {'title ' * 400})\n")
+        told = [f"{path}:1: b: it would write more than a million bytes"]
+        self.row("two million bytes", self.cheap(rows, path), (1, "", told))
         for base, why in COSTLY:
             path = self.file("hostile.rows", f"base {base}\n")
             self.row(f"costly rows: {base[-99:]}", self.cheap(path), (1, "", [f"{path}: {why}"]))

@@ -4,7 +4,7 @@
 //! `style FORMS` sets the style, and is answered by what it asks of a driver and what it lacks.
 //! `keys NUMBER FORMS` is answered by the sort keys of the entry of these forms, `item NUMBER FORMS`
 //! by its cite and its line of the bibliography, whose first field is apart if the style aligns it.
-//! What is wrong with a request is a line `fault`.
+//! A request writes at most a million bytes. What is wrong with it is a line `fault`.
 
 use crate::driver::{Key, around, keys};
 use crate::entry::entry;
@@ -17,8 +17,8 @@ use crate::style::style;
 use crate::work::Work;
 use csl::style::{Layout, OtherTerm, RenderingElement, Term, Text};
 use csl::{
-    BufWriteFormat, CitationNumber, CiteProperties, DisambiguateState, ElemChildren,
-    InstanceContext, LeftState, Scope, Style, bibliography_entry, cite, is_web_address, sort_key,
+    BufWriteFormat, CitationNumber, CiteProperties, Context, DisambiguateState, ElemChildren,
+    InstanceContext, LeftState, RenderCsl, Scope, Sorting, Style, is_web_address,
 };
 use std::alloc::Global;
 
@@ -29,6 +29,9 @@ const ALL_NODES: u64 = 20_000;
 
 /// How deep the nodes of a layout may be, with those of the macros that it calls.
 const DEPTH: usize = 64;
+
+/// The most bytes that a request may write.
+const BYTES: u64 = 1_000_000;
 
 /// What the requests so far have set.
 #[derive(Drop)]
@@ -80,6 +83,47 @@ fn numbered(number: u32) -> CiteProperties<'static> {
         props.speculative.citation_number = number;
     }
     props
+}
+
+/// A work with its cite, and the bytes that its request may still write.
+#[derive(Drop)]
+struct Request<'s> {
+    alloc: Global,
+    style: &'s Style,
+    work: &'s Work,
+    props: &'s CiteProperties<'s>,
+    room: u64,
+}
+
+impl<'s> Request<'s> {
+    /// The content of the work by a layout of a scope, for sorting if a sort is given.
+    fn content(
+        &mut self,
+        layout: &'s Layout,
+        scope: Scope,
+        sorting: Option<Sorting>,
+    ) -> Result<ElemChildren, Fault> {
+        let instance = InstanceContext {
+            entry: self.work,
+            cite_props: self.props,
+            sorting,
+            kind: None,
+        };
+        let mut ctx = Context::new(self.alloc, self.style, instance, scope)?;
+        ctx.limit(self.room);
+        let rendered = layout.render(&mut ctx);
+        self.room = ctx.room();
+        match rendered {
+            Ok(()) => Ok(ctx.finish()?.content),
+            Err(error) => {
+                drop(ctx);
+                if self.room == 0 {
+                    return Err(Fault::Wrong("it would write more than a million bytes"));
+                }
+                Err(error.into())
+            }
+        }
+    }
 }
 
 /// A text in the formatting of a layout.
@@ -244,12 +288,29 @@ impl Items {
         Ok((style, numbered(number), work))
     }
 
+    /// A request for a work, of which nothing is written yet.
+    fn request<'s>(
+        &self,
+        style: &'s Style,
+        props: &'s CiteProperties<'s>,
+        work: &'s Work,
+    ) -> Request<'s> {
+        Request {
+            alloc: self.alloc,
+            style,
+            work,
+            props,
+            room: BYTES,
+        }
+    }
+
     /// Prints the sort keys of an entry.
     fn reply_keys(&self, rt: &impl Print, text: &str) -> Result<(), Fault> {
         let (style, props, work) = self.entry(text)?;
+        let mut request = self.request(style, &props, &work);
         for it in &self.keys {
-            let (scope, sorting) = (self.scope, it.sorting);
-            let key = sort_key(self.alloc, style, &work, &props, &it.layout, scope, sorting)?;
+            let content = request.content(&it.layout, self.scope, Some(it.sorting))?;
+            let key = content.to_text(self.alloc, BufWriteFormat::Plain)?;
             reply(rt, self.alloc, "key", key.as_str())?;
         }
         Ok(())
@@ -258,10 +319,14 @@ impl Items {
     /// Prints the cite of an entry, and its line of the bibliography, if the style has one.
     fn reply_item(&self, rt: &impl Print, text: &str) -> Result<(), Fault> {
         let (style, props, work) = self.entry(text)?;
-        let cited = cite(self.alloc, style, &work, &props)?;
-        reply_content(rt, self.alloc, "cite", cited.content)?;
-        match bibliography_entry(self.alloc, style, &work, &props)? {
-            Some(listed) => self.reply_line(rt, listed.content),
+        let mut request = self.request(style, &props, &work);
+        let cited = request.content(style.citation(), Scope::Citation, None)?;
+        reply_content(rt, self.alloc, "cite", cited)?;
+        match style.bibliography() {
+            Some(layout) => {
+                let listed = request.content(layout, Scope::Bibliography, None)?;
+                self.reply_line(rt, listed)
+            }
             None => Ok(()),
         }
     }
