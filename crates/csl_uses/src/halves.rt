@@ -2,7 +2,7 @@
 //! `Kwan (2014)`.
 //! Definitions: specs/Cite.antt.
 
-ghost use Rattle.std.specs.Prelude.{◌≡◌, false, IfOk, string_bytes};
+ghost use Rattle.std.specs.Prelude.{◌≡◌, false, not, IfOk, string_bytes};
 ghost use Rattle.csl.specs.Style.Named.{the_variable};
 ghost use Rattle.csl.specs.Style.NamedSet.{a_variable, named_union};
 ghost use Rattle.csl.specs.Entry.Alike.{SameNamedAnswers};
@@ -38,8 +38,21 @@ pub fn authors_half<T: EntryLike>(alloc: Global, style: &Style, entry: &T) -> Re
     Ok(part.content.to_text(alloc, BufWriteFormat::Plain)?)
 }
 
+/// Whether no test of the style's citation layout names the authors, so that the other half of each
+/// cite tells nothing of them.
+///
+/// # Errors
+/// [`Error::Memory`]: out of memory.
+pub fn is_other_half_silent(alloc: Global, style: &Style) -> Result<bool, Error>
+    ensures { IfOk result (λ silent. silent
+        ≡ not (variables_of_tests style.now style.now.citation (a_variable author))) }
+{
+    let tested = csl::named_by_tests(alloc, style, style.citation())?;
+    Ok(!tested.names.contains(&NameVariable::Author))
+}
+
 /// The plain text of the first cite of an entry without its authors, as `2014`. It tells nothing of
-/// them, unless a test of the layout names them (`csl::named_by_tests` says which they name).
+/// them, unless a test of the layout names them ([`is_other_half_silent`]).
 ///
 /// # Errors
 /// [`Error::Memory`]: out of memory, here or in the entry.

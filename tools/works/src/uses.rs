@@ -14,7 +14,7 @@ use csl_uses::by_snapshot::{cite_by_snapshot, key_by_snapshot};
 use csl_uses::cite::{bibliography_line, cite, house_style, page_cite, the_compilers_book};
 use csl_uses::film::{Film, metropolis, title_of};
 use csl_uses::fold::fold;
-use csl_uses::halves::{authors_half, other_half};
+use csl_uses::halves::{authors_half, is_other_half_silent, other_half};
 use csl_uses::in_text::{bare_style, cite_in_text, sorted_cites};
 use csl_uses::links::{with_links_to, with_web_links};
 use csl_uses::list::{annotate_first, count_new, lines, rename_first};
@@ -99,7 +99,8 @@ fn show_clauses(out: &mut String, alloc: Global, book: &Entry) -> Result<(), Wor
     let style = bare_style(alloc)?;
     let authors = authors_half(alloc, &style, book)?;
     let other = other_half(alloc, &style, book)?;
-    writeln!(out, "halves: {authors}, {other}")?;
+    let is_silent = is_other_half_silent(alloc, &style)?;
+    writeln!(out, "halves: {authors}, {other}, silent: {is_silent}")?;
     let (named, layout) = (
         named_by(alloc, &style, style.citation())?,
         issue_key(alloc)?,
