@@ -1,4 +1,5 @@
 pub mod Error
+pub mod Renderer
 pub use Rattle.csl_languages.specs as Languages
 pub use Rattle.csl_common.specs as Common
 pub use Rattle.lit_model.specs as Literature

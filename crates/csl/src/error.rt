@@ -16,6 +16,8 @@ use std::{error, fmt};
 pub enum Error {
     /// Out of memory, in a call or in an entry.
     Memory,
+    /// A request would write more than its limit allows.
+    Limit,
     /// A text does not parse as a number, or as pages.
     NotNumeric,
     /// A text is not HTML as `write_buf` writes it.
@@ -35,6 +37,7 @@ impl fmt::Display for Error {
     fn fmt<W: fmt::Write>(&self, f: &mut fmt::Formatter<W>) -> fmt::Result {
         match self {
             Error::Memory => f.write_str("out of memory"),
+            Error::Limit => f.write_str("beyond the limit"),
             Error::NotNumeric => f.write_str("not numeric"),
             Error::NotHtml => f.write_str("not html"),
             Error::DateOutOfRange => f.write_str("month or day out of range"),

@@ -2,15 +2,17 @@
 //!
 //! A style and its locale are values. Nodes, options and terms are in [`style`], a work and its
 //! parts in [`literature`], the output tree in [`tree`]. [`cite`] and [`bibliography_entry`] render
-//! an entry of any type that implements [`EntryLike`]. For a single node, [`context`] has the
-//! context and [`render`] the calls. [`Language`] finds a locale by its tag, in the words of CSL's
-//! own; [`english`], [`german`], [`spanish`] and eight more return one. The errors of all calls
-//! convert into [`Error`]. `docs/CALLING.md` has a whole program.
+//! an entry of any type that implements [`EntryLike`], and a [`Renderer`] does so within one limit
+//! for a request. For a single node, [`context`] has the context and [`render`] the calls.
+//! [`Language`] finds a locale by its tag, in the words of CSL's own; [`english`], [`german`],
+//! [`spanish`] and eight more return one. The errors of all calls convert into [`Error`].
+//! `docs/CALLING.md` has a whole program.
 //!
 //! An error that the docs of a call do not explain means out of memory.
 #![tactic(auto)]
 
 mod error;
+mod renderer;
 
 pub use csl_common::{Sink, TrackingFormatter, TrackingWriter};
 pub use csl_context as context;
@@ -38,3 +40,4 @@ pub use csl_tree::{BufWriteFormat, ElemChildren, HtmlError, leaf_text_of_html};
 pub use error::Error;
 pub use lit_model as literature;
 pub use lit_model::{Entry, Memory, NumericError, is_web_address};
+pub use renderer::Renderer;

@@ -10,5 +10,6 @@ mod languages;
 mod limits;
 mod lists;
 mod more_languages;
+mod renderers;
 mod terms;
 mod whole_locales;

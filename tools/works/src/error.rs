@@ -81,6 +81,7 @@ impl From<Error> for WorkError {
     fn from(error: Error) -> WorkError {
         match error {
             Error::Memory | Error::Refused => WorkError::Memory,
+            Error::Limit => WorkError::Unexpected("beyond the limit"),
             Error::Style(error) => error.into(),
             Error::NotNumeric => WorkError::Unexpected("not numeric"),
             Error::NotHtml => WorkError::Unexpected("not html"),

@@ -33,6 +33,7 @@ pub fn result(alloc: Global, name: &str) -> Result<String, WorkError> {
         "suppressed" => cites::suppressed(alloc),
         "date-only" => cites::date_only(alloc),
         "limited" => cites::limited(alloc),
+        "request" => cites::request(alloc),
         "shortened" => cites::shortened(alloc),
         "simplify" => trees::simplify(alloc),
         "flat" => trees::flat(alloc),

@@ -11,12 +11,12 @@ use csl::{
 use std::alloc::Global;
 use std::process::Abort;
 
-fn aeon(rt: &impl Abort, alloc: Global) -> Entry {
+pub(crate) fn aeon(rt: &impl Abort, alloc: Global) -> Entry {
     Entry::titled(alloc, "aeon", EntryType::Periodical, "Aeon & <b>").expect(rt, "memory")
 }
 
 /// A style with the title in quotes in a cite, and with a period after it in the bibliography.
-fn titles(rt: &impl Abort, alloc: Global) -> Style {
+pub(crate) fn titles(rt: &impl Abort, alloc: Global) -> Style {
     let quoted = Text {
         quotes: true,
         ..Text::variable(StandardVariable::Title.into())

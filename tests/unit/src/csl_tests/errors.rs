@@ -50,6 +50,7 @@ fn other_errors_and_their_texts(rt: HostRuntime) {
     assert_text_of(&rt, alloc, fmt::Error.into(), "a writer refused a text");
     let out_of_range = "month or day out of range";
     assert_text_of(&rt, alloc, Error::DateOutOfRange, out_of_range);
+    assert_text_of(&rt, alloc, Error::Limit, "beyond the limit");
 }
 
 #[test]

@@ -8,8 +8,8 @@ use csl::literature::ChunkedString;
 use csl::style::{DateVariable, NameVariable};
 use csl::{
     Alphanumerical, BufWriteFormat, CiteProperties, Context, DisambiguateState,
-    DisambiguatedNameForm, Entry, EntryLike, InstanceContext, Pair, RenderCsl, Rendered, Scope,
-    Style, cite_pair,
+    DisambiguatedNameForm, Entry, EntryLike, Error, InstanceContext, Pair, RenderCsl, Rendered,
+    Renderer, Scope, Sorting, Style, cite_pair,
 };
 use csl_samples::{BuiltIn, BuiltInStyle, TitleOnly, title_style};
 use std::alloc::Global;
@@ -109,6 +109,44 @@ pub fn limited(alloc: Global) -> Result<String, WorkError> {
         (Some(text), 1) => Ok(text),
         _ => Err(WorkError::Unexpected("another cite")),
     }
+}
+
+/// The plain text and the sort key of a cite by one renderer under a limit, and the bytes that are
+/// left.
+fn request_within(
+    alloc: Global,
+    style: &Style,
+    entry: &Entry,
+    limit: u64,
+) -> Result<(String, u64), Error> {
+    let first = CiteProperties::first(DisambiguateState::None);
+    let (layout, scope) = (style.citation(), Scope::Citation);
+    let mut renderer = Renderer::new(style).limited(limit);
+    let cite = renderer.cite(alloc, entry, &first)?;
+    let key = renderer.sort_key(alloc, entry, &first, layout, scope, Sorting::Macro)?;
+    let text = format!(in alloc; "{}, by {key}", cite.content)?;
+    Ok((text, renderer.room()))
+}
+
+/// A cite and its sort key by one renderer, under a limit of one byte more than they take. Each
+/// eighth of that refuses one of them.
+pub fn request(alloc: Global) -> Result<String, WorkError> {
+    let style = BuiltInStyle::AuthorDate.style(alloc)?;
+    let entry = BuiltIn::CrazyRich.entry(alloc)?;
+    let (_, left) = request_within(alloc, &style, &entry, 1_000_000)?;
+    let taken = 1_000_000 - left;
+    for eighth in 0..8u64 {
+        match request_within(alloc, &style, &entry, taken * eighth / 8) {
+            Err(Error::Limit) => {}
+            Err(error) => return Err(error.into()),
+            Ok(_) => return Err(WorkError::Unexpected("the limit is forgotten")),
+        }
+    }
+    let (text, left) = request_within(alloc, &style, &entry, taken + 1)?;
+    if left != 1 {
+        return Err(WorkError::Unexpected("another room"));
+    }
+    Ok(text)
 }
 
 /// With a year suffix of three letters.
