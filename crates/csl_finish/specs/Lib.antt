@@ -1,0 +1,2 @@
+-- The definitions that the contracts of `csl_finish` cite.
+pub mod Links
