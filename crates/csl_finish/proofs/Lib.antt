@@ -1,1 +1,5 @@
-pub mod Links
+pub mod Addresses
+pub mod Folds
+pub mod Marks
+pub mod Order
+pub mod Words

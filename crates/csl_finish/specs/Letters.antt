@@ -1,27 +1,21 @@
--- The texts of a content, by the characters of all of them in a row, each with the index of its text.
--- A character of a link or a markup has no index.
-use Rattle.std.specs.Prelude.{◌≡◌, ◌<◌, ◌++◌, ◌==◌, ℕ, suc, List, [], ◌∷◌, Option, Some, None, length, map, string_bytes, if◌then◌else◌}
-use Rattle.std.specs.List.{flat_map, get_or}
-use Rattle.csl_tree.specs.Tokens.{Token, text, solid}
+-- Letters and digits (Unicode: Alphabetic or Numeric) among the characters of a content, each with the
+-- index of its text. A character of a link or a markup has no index. Finishing may change, move and
+-- drop marks, spaces and quotes. Each letter and digit stays in its text, in their order.
+use Rattle.std.specs.Prelude.{ℕ, Bool, ◌||◌, List, [], ◌∷◌, Option, Some, None, filter, map, if◌then◌else◌}
+use Rattle.std.specs.Char.Unicode.Alphabetic.{is_alphabetic}
+use Rattle.std.specs.Char.Unicode.Numeric.{is_numeric}
+use Rattle.std.specs.List.{flat_map}
+use Rattle.std.specs.Str.{chars}
 use Rattle.csl_finish.specs.declared.letters.Letter.{Letter}
-use Rattle.csl_finish.specs.Finishing.{is_word_char, words_of}
 
--- ---- the texts of a content
+abbrev pub is_word_char : ℕ → Bool
+is_word_char c = is_alphabetic c || is_numeric c
 
-abbrev pub texts_of : List Token → List (List ℕ)
-texts_of [] = []
-texts_of (text bs f ∷ ts) = bs ∷ texts_of ts
-texts_of (solid s ∷ ts) = texts_of ts
+-- the letters and digits of a text
+abbrev pub words_of : List ℕ → List ℕ
+words_of bs = filter is_word_char (chars bs)
 
--- the tokens with other texts, in turn; a text for which there is none stays
-abbrev pub with_texts : List (List ℕ) → List Token → List Token
-with_texts new [] = []
-with_texts [] (text bs f ∷ ts) = text bs f ∷ with_texts [] ts
-with_texts (n ∷ new) (text bs f ∷ ts) = text n f ∷ with_texts new ts
-with_texts new (solid s ∷ ts) = solid s ∷ with_texts new ts
-
--- ---- letters and digits, each with the index of its text
-
+-- characters of the text with an index; those of links and markup are left out
 abbrev pub placed : Option ℕ → List ℕ → List (ℕ × ℕ)
 placed None cs = []
 placed (Some k) cs = map (λ c. (k, c)) cs
@@ -35,15 +29,3 @@ word_of l = placed l.text (word l.value)
 
 abbrev pub words : List Letter → List (ℕ × ℕ)
 words ls = flat_map word_of ls
-
--- the letters and digits of texts in a row, the first of which has this index
-abbrev pub words_from : ℕ → List (List ℕ) → List (ℕ × ℕ)
-words_from k [] = []
-words_from k (bs ∷ texts) = placed (Some k) (words_of bs) ++ words_from (suc k) texts
-
--- those of the text with this index
-abbrev pub word_at : ℕ → ℕ × ℕ → List ℕ
-word_at k w = if w.0 == k then w.1 ∷ [] else []
-
-abbrev pub words_at : ℕ → List (ℕ × ℕ) → List ℕ
-words_at k ws = flat_map (word_at k) ws

@@ -1,5 +1,10 @@
 //! Sort keys as data, and their order (CSL 1.0.2, Sorting).
 
+ghost use Rattle.std.specs.Prelude.{◌≡◌, map, IfOk, IsPermutation};
+ghost use Rattle.std.specs.List.Sorted.{IsSorted};
+ghost use Rattle.csl_finish.specs.Keys as spec;
+ghost use Rattle.csl_finish.specs.Keys.{ArePlaces, AreInOrder, by_key_then_place, placed_from};
+
 use crate::folding::fold;
 use lit_model::Memory;
 use std::alloc::Global;
@@ -29,8 +34,11 @@ pub enum KeyText {
 }
 
 impl KeyText {
-    /// The key of a text that was folded by the caller, for example to the key of a collation.
-    pub fn new(folded: String, text: String, direction: SortDirection) -> KeyText {
+    /// The key of a text that was folded by the caller, for example to the key of a collation. It is
+    /// [`KeyText::Empty`] if the text itself is empty.
+    pub fn new(folded: String, text: String, direction: SortDirection) -> KeyText
+        ensures { result ≡ spec.key_of direction folded text }
+    {
         if text.is_empty() {
             return KeyText::Empty;
         }
@@ -41,26 +49,61 @@ impl KeyText {
     }
 
     /// The key of a text, folded by [`fold`].
-    pub fn of_text(
-        alloc: Global,
-        text: String,
-        direction: SortDirection,
-    ) -> Result<KeyText, Memory> {
+    ///
+    /// # Errors
+    /// [`Memory`]: out of memory.
+    pub fn of_text(alloc: Global, text: String, direction: SortDirection) -> Result<KeyText, Memory>
+        ensures { IfOk result (spec.IsKeyOf direction text) }
+    {
         let folded = fold(alloc, text.as_str())?;
         Ok(KeyText::new(folded, text, direction))
     }
 }
 
-/// The places of keys in their order. Places of equal keys stay in their order.
-pub fn order_of<K: Ord + Drop>(alloc: Global, keys: Vec<K>) -> Result<Vec<usize>, Memory> {
+/// The keys with their places.
+#[tactic(auto, using(crate::proofs::Order::placing))]
+fn placed<K: Drop>(alloc: Global, keys: Vec<K>) -> Result<Vec<(K, usize)>, Memory>
+    ensures { IfOk result (λ placed. placed.items ≡ placed_from 0 keys.items) }
+{
     let mut placed = Vec::with_capacity(alloc, keys.len())?;
-    for (place, key) in keys.into_iter().enumerate() {
+    for key in keys {
+        let place = placed.len();
         placed.push((key, place))?;
     }
+    Ok(placed)
+}
+
+/// The keys with their places, sorted.
+fn sorted<K: Ord + Drop>(alloc: Global, keys: Vec<K>) -> Result<Vec<(K, usize)>, Memory>
+    ensures permutation { IfOk result (λ sorted. IsPermutation (placed_from 0 keys.items)
+        sorted.items) }
+    ensures sorted { IfOk result (λ sorted. IsSorted (by_key_then_place K.cmp) sorted.items) }
+{
+    let mut placed = placed(alloc, keys)?;
     placed.sort_unstable();
-    let mut order = Vec::with_capacity(alloc, placed.len())?;
-    for (_key, place) in placed {
-        order.push(place)?;
+    Ok(placed)
+}
+
+/// The places alone.
+fn places_of<K>(alloc: Global, placed: &[(K, usize)]) -> Result<Vec<usize>, Memory>
+    ensures { IfOk result (λ places. places.items ≡ map (λ p. p.1) placed.now) }
+{
+    let mut places = Vec::with_capacity(alloc, placed.len())?;
+    for pair in placed {
+        places.push(pair.1)?;
     }
+    Ok(places)
+}
+
+/// The places of keys in their order. Places of equal keys stay in their order.
+///
+/// # Errors
+/// [`Memory`]: out of memory.
+pub fn order_of<K: Ord + Drop>(alloc: Global, keys: Vec<K>) -> Result<Vec<usize>, Memory>
+    ensures permutation { IfOk result (λ order. ArePlaces keys.items order.items) }
+    ensures sorted { IfOk result (λ order. AreInOrder K.cmp keys.items order.items) }
+{
+    let sorted = sorted(alloc, keys)?;
+    let order = places_of(alloc, &sorted)?;
     Ok(order)
 }

@@ -1,5 +1,8 @@
 //! The characters of a content in a row, each with the text that it stands in.
 
+ghost use Rattle.std.specs.Prelude.{◌≡◌, ◌++◌, OnOk};
+ghost use Rattle.csl_finish.specs.Letters.{placed, words, words_of};
+
 use csl_tree::{Elem, ElemChild, ElemChildren};
 use lit_model::Memory;
 use std::alloc::Global;
@@ -30,11 +33,15 @@ pub(crate) struct Letter {
 const PLACE: char = '\u{fffc}';
 
 /// Appends the characters of one text.
-fn push_letters(letters: &mut Vec<Letter>, words: &str, text: Option<usize>) -> Result<(), Memory> {
-    for value in words.chars() {
+#[tactic(auto, using(crate::proofs::Marks::pushes))]
+fn push_letters(letters: &mut Vec<Letter>, text: &str, index: Option<usize>) -> Result<(), Memory>
+    ensures { OnOk result (words letters.new.items
+        ≡ words letters.old.items ++ placed index (words_of text.now)) }
+{
+    for value in text.chars() {
         letters.push(Letter {
             value,
-            text,
+            text: index,
             role: Role::Plain,
         })?;
     }
@@ -67,17 +74,27 @@ pub(crate) fn read_letters(
     Ok(())
 }
 
+/// Appends a character to its text.
+fn write_letter(letter: Letter, texts: &mut [String]) -> Result<(), Memory> {
+    let Some(index) = letter.text else {
+        return Ok(());
+    };
+    if index < texts.len() {
+        texts[index].push(letter.value)?;
+    }
+    Ok(())
+}
+
 /// Appends each character to its text.
 pub(crate) fn write_letters(letters: &[Letter], texts: &mut [String]) -> Result<(), Memory> {
     for letter in letters {
-        if let Some(text) = letter.text.and_then(|index| texts.get_mut(index)) {
-            text.push(letter.value)?;
-        }
+        write_letter(*letter, texts)?;
     }
     Ok(())
 }
 
 /// A copy of the content in which each text is the next of `texts`.
+#[cycle(texts)]
 pub(crate) fn with_texts(
     alloc: Global,
     content: &ElemChildren,
@@ -91,6 +108,7 @@ pub(crate) fn with_texts(
 }
 
 /// A copy of the child in which each text is the next of `texts`.
+#[cycle(texts)]
 fn child_with_texts(
     alloc: Global,
     child: &ElemChild,
@@ -116,13 +134,5 @@ fn child_with_texts(
         ElemChild::Markup(_) | ElemChild::Link { .. } | ElemChild::Transparent { .. } => {
             child.clone(alloc)
         }
-    }
-}
-
-/// The character at an index, or a space after the last.
-pub(crate) fn char_at(letters: &[Letter], index: usize) -> char {
-    match letters.get(index) {
-        Some(letter) => letter.value,
-        None => ' ',
     }
 }

@@ -14,6 +14,9 @@ use std::alloc::Global;
 use url::{ParseError, Url};
 
 /// The content, with each link that leads to neither `http` nor `https` replaced by its text.
+///
+/// # Errors
+/// [`Memory`]: out of memory, or an address is larger than 4 GB.
 pub fn with_web_links(alloc: Global, rendered: ElemChildren) -> Result<ElemChildren, Memory>
     ensures text { IfOk result (λ content.
         leaf_text (tokens content) ≡ leaf_text (tokens rendered)) }
@@ -71,6 +74,9 @@ fn is_web_address_of(alloc: Global, address: &str, hosts: &[&str]) -> Result<boo
 
 /// The content, with each link replaced by its text, unless it leads to a web page at one of these
 /// hosts. A host is in lower case and ASCII, as a parsed address has it.
+///
+/// # Errors
+/// [`Memory`]: out of memory, or an address is larger than 4 GB.
 pub fn with_links_to(
     alloc: Global,
     rendered: ElemChildren,

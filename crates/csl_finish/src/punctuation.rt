@@ -1,5 +1,9 @@
 //! Marks in a row, as citeproc-js merges them.
 
+ghost use Rattle.std.specs.Prelude.{◌≡◌, ◌++◌, [], ◌∷◌, IfOk, OnOk};
+ghost use Rattle.csl_finish.specs.Letters.{words, word_of};
+ghost use Rattle.csl_finish.specs.Punctuation.{KeepsWords};
+
 use crate::letters::{Letter, Role};
 use lit_model::Memory;
 use std::alloc::Global;
@@ -12,7 +16,10 @@ enum Kept {
 }
 
 /// Which of a character and the one right before it stay.
-fn kept_of(before: Letter, letter: Letter) -> Kept {
+#[tactic(auto, using(crate::proofs::Marks::silent_marks))]
+fn kept_of(before: Letter, letter: Letter) -> Kept
+    ensures { KeepsWords result before letter }
+{
     match (before.value, letter.value) {
         ('?' | '!', ',' | '.') if letter.role == Role::Moved => Kept::First,
         ('.' | '?' | '!' | ':' | ';', '.')
@@ -64,7 +71,10 @@ fn is_fixed(letters: &[Letter], index: usize, letter: Letter) -> bool {
 
 /// Appends a letter. It or those right before it are left out, where they do not stay beside each
 /// other.
-fn push_merged(stay: &mut Vec<Letter>, letter: Letter) -> Result<(), Memory> {
+#[tactic(auto, using(crate::proofs::Marks::pushes))]
+fn push_merged(stay: &mut Vec<Letter>, letter: Letter) -> Result<(), Memory>
+    ensures { OnOk result (words stay.new.items ≡ words stay.old.items ++ word_of letter) }
+{
     while let Some(before) = stay.last() {
         match kept_of(*before, letter) {
             Kept::Both => break,
@@ -79,7 +89,10 @@ fn push_merged(stay: &mut Vec<Letter>, letter: Letter) -> Result<(), Memory> {
 }
 
 /// The letters without those that do not stay beside their neighbours.
-pub(crate) fn merged_letters(alloc: Global, letters: &[Letter]) -> Result<Vec<Letter>, Memory> {
+#[tactic(auto, using(crate::proofs::Marks::pushes))]
+pub(crate) fn merged_letters(alloc: Global, letters: &[Letter]) -> Result<Vec<Letter>, Memory>
+    ensures { IfOk result (λ merged. words merged.items ≡ words letters.now) }
+{
     let mut stay = Vec::new(alloc);
     for (index, letter) in letters.iter().enumerate() {
         if is_fixed(letters, index, *letter) {

@@ -1,6 +1,11 @@
 //! Quotes inside of quotes, and commas and periods at the end of quotes.
+//! Definitions: specs/Letters.antt.
 
-use crate::letters::{Letter, Role, char_at};
+ghost use Rattle.std.specs.Prelude.{◌≡◌, ◌++◌, [], false, true, IfOk, IfSome, OnOk};
+ghost use Rattle.csl_finish.specs.Letters.{is_word_char};
+ghost use Rattle.csl_finish.specs.Letters.{word_of, words};
+
+use crate::letters::{Letter, Role};
 use csl_style::{OtherTerm, Style, Term, TermForm};
 use lit_model::Memory;
 use std::alloc::Global;
@@ -24,7 +29,9 @@ pub(crate) struct Quotes<'s> {
 const MOST_OPEN: usize = 8;
 
 /// The mark in the text of a quote, which in some languages has a space beside it.
-fn mark_of(text: &str) -> Option<char> {
+fn mark_of(text: &str) -> Option<char>
+    ensures { IfSome result (λ mark. is_word_char mark ≡ false) }
+{
     text.chars()
         .find(|it| !it.is_whitespace() && !it.is_alphanumeric())
 }
@@ -81,23 +88,36 @@ impl<'s> Quotes<'s> {
     }
 }
 
-/// How many quotes are open after the mark at this index, if it closes one. Before a letter it is an
-/// apostrophe.
-fn open_after(letters: &[Letter], index: usize, mark: char, open: &[char]) -> Option<usize> {
-    if char_at(letters, index.saturating_add(1)).is_alphanumeric() {
+/// Whether the mark at this index is an apostrophe: before a letter of its text.
+fn is_apostrophe(letters: &[Letter], index: usize, mark: Letter) -> bool {
+    match letters.get(index.saturating_add(1)) {
+        Some(after) => {
+            let is_before_letter = after.text == mark.text && after.value.is_alphanumeric();
+            is_before_letter && matches!(mark.value, '’' | '\'')
+        }
+        None => false,
+    }
+}
+
+/// How many quotes are open after the mark at this index, if it closes one.
+fn open_after(letters: &[Letter], index: usize, mark: Letter, open: &[char]) -> Option<usize> {
+    if is_apostrophe(letters, index, mark) {
         return None;
     }
-    open.iter().rposition(|it| *it == mark)
+    open.iter().rposition(|it| *it == mark.value)
 }
 
 /// Appends a quote's text in the place of a mark. If the mark is already that quote's, a space
 /// beside it stays as it is.
+#[tactic(auto, using(crate::proofs::Marks::pushes))]
 fn push_quote(
     letters: &mut Vec<Letter>,
     mark: Letter,
     quote: &str,
     role: Role,
-) -> Result<(), Memory> {
+) -> Result<(), Memory>
+    ensures { OnOk result (words letters.new.items ≡ words letters.old.items) }
+{
     let own = mark_of(quote);
     if own == Some(mark.value) {
         letters.push(Letter { role, ..mark })?;
@@ -117,17 +137,20 @@ fn push_quote(
 }
 
 /// The letters with the quotes of the language, the inner ones inside of outer ones, in turn.
+#[tactic(auto, using(crate::proofs::Marks::pushes))]
 pub(crate) fn nested_quotes(
     alloc: Global,
     letters: &[Letter],
     quotes: Quotes<'_>,
-) -> Result<Vec<Letter>, Memory> {
+) -> Result<Vec<Letter>, Memory>
+    ensures { IfOk result (λ nested. words nested.items ≡ words letters.now) }
+{
     let mut nested = Vec::new(alloc);
     let mut open = Vec::new(alloc);
     for (index, letter) in letters.iter().enumerate() {
         if letter.text.is_none() || letter.value.is_alphanumeric() {
             nested.push(*letter)?;
-        } else if let Some(rest) = open_after(letters, index, letter.value, &open) {
+        } else if let Some(rest) = open_after(letters, index, *letter, &open) {
             open.truncate(rest);
             let close = quotes.inside_of(rest).close;
             push_quote(&mut nested, *letter, close, Role::Closing)?;
@@ -145,28 +168,64 @@ pub(crate) fn nested_quotes(
     Ok(nested)
 }
 
+/// Whether a letter moves into the quotes before it: a comma or a period of a text.
+#[tactic(auto, using(crate::proofs::Marks::silent_marks))]
+fn moves(letter: Letter) -> bool
+    ensures { result ≡ true → word_of letter ≡ [] }
+{
+    match letter.value {
+        ',' | '.' => letter.text.is_some(),
+        _ => false,
+    }
+}
+
+/// Appends a letter after the closing quotes that were read last, or before them if it moves.
+#[tactic(auto, using(crate::proofs::Marks::moving))]
+fn push_moved(
+    moved: &mut Vec<Letter>,
+    closing: &mut Vec<Letter>,
+    letter: Letter,
+) -> Result<(), Memory>
+    ensures { OnOk result (words moved.new.items ++ words closing.new.items
+        ≡ (words moved.old.items ++ words closing.old.items) ++ word_of letter) }
+{
+    if letter.role == Role::Closing {
+        closing.push(letter)?;
+        return Ok(());
+    }
+    if let Some(quote) = closing.first() {
+        if moves(letter) {
+            let text = quote.text;
+            moved.push(moved_into(letter, text))?;
+            return Ok(());
+        }
+    }
+    moved.append(closing)?;
+    moved.push(letter)?;
+    Ok(())
+}
+
+/// A mark that has moved into the quotes of a text.
+fn moved_into(mark: Letter, text: Option<usize>) -> Letter
+    ensures { word_of mark ≡ [] → word_of result ≡ [] }
+{
+    Letter {
+        text,
+        role: Role::Moved,
+        ..mark
+    }
+}
+
 /// The letters with each comma and period after closing quotes before them (CSL 1.0.2, Locale
 /// Options: punctuation-in-quote).
-pub(crate) fn with_marks_in_quotes(
-    alloc: Global,
-    letters: &[Letter],
-) -> Result<Vec<Letter>, Memory> {
+#[tactic(auto, using(crate::proofs::Marks::moving))]
+pub(crate) fn with_marks_in_quotes(alloc: Global, letters: &[Letter]) -> Result<Vec<Letter>, Memory>
+    ensures { IfOk result (λ moved. words moved.items ≡ words letters.now) }
+{
     let mut moved = Vec::new(alloc);
-    let mut closing: Vec<Letter> = Vec::new(alloc);
+    let mut closing = Vec::new(alloc);
     for letter in letters {
-        let is_mark = letter.text.is_some() && matches!(letter.value, ',' | '.');
-        match closing.first() {
-            Some(quote) if is_mark => moved.push(Letter {
-                value: letter.value,
-                text: quote.text,
-                role: Role::Moved,
-            })?,
-            _ if letter.role == Role::Closing => closing.push(*letter)?,
-            _ => {
-                moved.append(&mut closing)?;
-                moved.push(*letter)?;
-            }
-        }
+        push_moved(&mut moved, &mut closing, *letter)?;
     }
     moved.append(&mut closing)?;
     Ok(moved)

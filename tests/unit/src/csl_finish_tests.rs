@@ -5,4 +5,5 @@ mod finish;
 mod fold;
 mod keys;
 mod links;
+mod random;
 mod trees;

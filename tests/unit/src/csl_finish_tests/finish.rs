@@ -96,12 +96,26 @@ fn links_and_markup_stay(rt: HostRuntime) {
     assert_rows(&rt, rt.alloc(), Language::English, rows);
 }
 
+/// So do formatting and elements.
+static FORMATTED: [(&str, &str); 3] = [
+    ("/a..|/. b", "/a.|/ b"),
+    ("[|/a.|]|.", "[|/a.|]|"),
+    ("[|“|[|/Moss|]|”|]|. b", "[|“|[|/Moss|]|.”|]| b"),
+];
+
+#[test]
+fn formatting_and_elements_stay(rt: HostRuntime) {
+    let rows: &[(&str, &str)] = &FORMATTED;
+    assert_rows(&rt, rt.alloc(), Language::English, rows);
+}
+
 /// English as in America has a comma and a period inside of quotes.
-static AMERICAN: [(&str, &str); 14] = [
+static AMERICAN: [(&str, &str); 15] = [
     ("“Moss”|, 2014", "“Moss,”| 2014"),
     ("“|Moss|”|.", "“|Moss|.”|"),
     ("[|“|Moss|”|]|. b", "[|“|Moss|.”|]| b"),
     ("“Moss”; b", "“Moss”; b"),
+    ("“Moss”|2014. “Fern”|.", "“Moss”|2014. “Fern.”|"),
     // through both closing quotes
     ("“On “Moss””|. b", "“On ‘Moss.’”| b"),
     ("“On ‘Moss’”|, b", "“On ‘Moss,’”| b"),
@@ -116,7 +130,7 @@ static AMERICAN: [(&str, &str); 14] = [
     ("“Roe’s ‘moss’ isn’t”|, b", "“Roe’s ‘moss’ isn’t,”| b"),
     (
         "“Music of the ‘90s”|. “Moss”|.",
-        "“Music of the ‘90s.”| “Moss.|”",
+        "“Music of the ‘90s.”| “Moss.”|",
     ),
     ("It’s Roe’s.", "It’s Roe’s."),
 ];

@@ -22,10 +22,12 @@ fn keys_of(rt: &impl Abort, alloc: Global, texts: &str) -> Vec<KeyText> {
 }
 
 /// Lists of keys, and their order.
-static ORDERS: [(&[&str], &[usize]); 9] = [
+static ORDERS: [(&[&str], &[usize]); 10] = [
     (&[], &[]),
     (&["roe", "kwan"], &[1, 0]),
     (&["roe", "Kwan", "Élan"], &[2, 1, 0]),
+    // a text of which nothing counts is not an empty key
+    (&["a", "?"], &[1, 0]),
     // an empty key comes last in both directions
     (&["", "roe", ""], &[1, 0, 2]),
     (&["a|b", "a|", "a|c"], &[2, 0, 1]),

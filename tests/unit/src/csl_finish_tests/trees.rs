@@ -5,13 +5,15 @@
 //! | Piece | Child |
 //! |---|---|
 //! | `a` | the text `a` |
+//! | `/a` | the text `a` in italics |
 //! | `@a` | a link with the text `a` to nowhere |
 //! | `@a>b` | a link with the text `a` to the address `b` |
 //! | `$a` | the markup `a` |
 //! | `#` | a place for a text of a cite |
-//! | `[`, `]` | the begin and the end of an element |
+//! | `[`, `]` | the begin and the end of an element, the third entry |
 
 use crate::shared::put;
+use csl_elements::FontStyle;
 use csl_tree::{Elem, ElemChild, ElemChildren, ElemMeta, Formatting};
 use std::alloc::Global;
 use std::mem;
@@ -39,6 +41,13 @@ fn leaf(rt: &impl Abort, alloc: Global, piece: &str) -> ElemChild {
             cite_idx: 7,
             format: formatting,
         };
+    }
+    if let Some(text) = piece.strip_prefix('/') {
+        let formatting = Formatting {
+            font_style: FontStyle::Italic,
+            ..formatting
+        };
+        return ElemChild::from(formatting.add_text(string(rt, alloc, text)));
     }
     ElemChild::from(formatting.add_text(string(rt, alloc, piece)))
 }
@@ -81,9 +90,14 @@ fn push(rt: &impl Abort, description: &mut String, texts: &[&str]) {
 fn push_pieces(rt: &impl Abort, description: &mut String, content: &ElemChildren) {
     for child in &content.0 {
         match child {
-            ElemChild::Text(text) => push(rt, description, &["|", text.text.as_str()]),
+            ElemChild::Text(text) => {
+                let is_italic = text.formatting.font_style == FontStyle::Italic;
+                let mark = if is_italic { "|/" } else { "|" };
+                push(rt, description, &[mark, text.text.as_str()]);
+            }
             ElemChild::Elem(elem) => {
-                push(rt, description, &["|["]);
+                let is_entry = elem.meta == Some(ElemMeta::Entry(3));
+                push(rt, description, &[if is_entry { "|[" } else { "|(" }]);
                 push_pieces(rt, description, &elem.children);
                 push(rt, description, &["|]"]);
             }

@@ -1,5 +1,5 @@
 use Rattle.std.proofs.Common.{◌≡◌, rules, refl}
-use Rattle.csl_finish.proofs.Links.{All-from_calls}
+use Rattle.csl_finish.proofs.Addresses.{All-from_calls}
 use Rattle.csl_finish.specs.Links.{IsWebAddressAt}
 use Rattle.csl_finish.proofs.links.with_links_to.Goals as goal
 

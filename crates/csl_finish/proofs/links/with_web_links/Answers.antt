@@ -1,6 +1,6 @@
 use Rattle.std.proofs.Common.{rules}
 use Rattle.std.specs.Bool.{⊤}
-use Rattle.csl_finish.proofs.Links.{All-from_calls}
+use Rattle.csl_finish.proofs.Addresses.{All-from_calls}
 use Rattle.lit_model.specs.WebAddress.{IsWebAddress}
 use Rattle.csl_finish.proofs.links.with_web_links.Goals as goal
 
