@@ -1,5 +1,4 @@
 pub mod Addresses
-pub mod Folds
 pub mod Marks
 pub mod Order
 pub mod Words

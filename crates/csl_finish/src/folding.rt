@@ -1,9 +1,7 @@
 //! Texts to sort by, in which case, accents and punctuation do not count.
 
-ghost use Rattle.std.specs.Prelude.{◌≡◌, ◌++◌, IfOk, OnOk, string_bytes, encode_utf8_all, option_map};
-ghost use Rattle.std.specs.Str.{chars};
+ghost use Rattle.std.specs.Prelude.{◌≡◌, encode_utf8_all, option_map};
 ghost use Rattle.csl_finish.specs.Folding as spec;
-ghost use Rattle.csl_finish.specs.Folding.{sorted_letter};
 
 use caseless::default_case_fold_str;
 use lit_model::Memory;
@@ -14,9 +12,7 @@ use unicode_normalization::to_nfkd;
 const YEAR_DIGITS: usize = 9;
 
 /// Whether a text begins with the digits of a year.
-fn begins_with_year(text: &[char]) -> bool
-    ensures { result ≡ spec.begins_with_year text.now }
-{
+fn begins_with_year(text: &[char]) -> bool {
     match text.split_at_checked(YEAR_DIGITS) {
         Some((year, _)) => year.iter().all(|it| it.is_ascii_digit()),
         None => false,
@@ -36,9 +32,7 @@ fn era_mark(letter: char) -> Option<char>
 
 /// The mark of an era, if the letter begins the key of a year, where `after` follows. It comes
 /// before all letters, as a year does.
-fn era_of(letter: char, after: &[char]) -> Option<char>
-    ensures { result ≡ spec.era_of letter after.now }
-{
+fn era_of(letter: char, after: &[char]) -> Option<char> {
     if begins_with_year(after) {
         era_mark(letter)
     } else {
@@ -75,10 +69,7 @@ fn counts(letter: char) -> bool
 }
 
 /// Appends what a letter sorts as, where `after` follows.
-fn push_folded(folded: &mut String, letter: char, after: &[char]) -> Result<(), Memory>
-    ensures { OnOk result (string_bytes folded.new
-        ≡ string_bytes folded.old ++ encode_utf8_all (sorted_letter letter after.now)) }
-{
+fn push_folded(folded: &mut String, letter: char, after: &[char]) -> Result<(), Memory> {
     if let Some(era) = era_of(letter, after) {
         folded.push(era)?;
     } else if let Some(base) = base_of(letter) {
@@ -90,11 +81,7 @@ fn push_folded(folded: &mut String, letter: char, after: &[char]) -> Result<(), 
 }
 
 /// What letters sort as.
-#[tactic(auto, using(crate::proofs::Folds::folded_more))]
-fn folded_letters(alloc: Global, letters: &[char]) -> Result<String, Memory>
-    ensures { IfOk result (λ folded. string_bytes folded
-        ≡ encode_utf8_all (spec.sorted_letters letters.now)) }
-{
+fn folded_letters(alloc: Global, letters: &[char]) -> Result<String, Memory> {
     let mut folded = String::new(alloc);
     for (index, letter) in letters.iter().enumerate() {
         push_folded(&mut folded, *letter, &letters[index + 1..])?;
@@ -116,11 +103,7 @@ fn folded_letters(alloc: Global, letters: &[char]) -> Result<String, Memory>
 ///
 /// # Errors
 /// [`Memory`]: out of memory.
-#[tactic(auto, using(crate::proofs::Folds::fold_is))]
-pub fn fold(alloc: Global, text: &str) -> Result<String, Memory>
-    ensures { IfOk result (λ folded. string_bytes folded
-        ≡ encode_utf8_all (spec.fold (chars text.now))) }
-{
+pub fn fold(alloc: Global, text: &str) -> Result<String, Memory> {
     let decomposed = to_nfkd(alloc, text)?;
     let small = default_case_fold_str(alloc, decomposed.as_str())?;
     let letters = small.chars().collect::<Vec<char>>(alloc)?;

