@@ -10,6 +10,8 @@ mod csl_context_tests;
 #[cfg(test)]
 mod csl_entry_tests;
 #[cfg(test)]
+mod csl_finish_tests;
+#[cfg(test)]
 mod csl_render_tests;
 #[cfg(test)]
 mod csl_style_tests;

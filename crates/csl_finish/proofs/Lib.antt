@@ -1,0 +1,4 @@
+pub mod Addresses
+pub mod Marks
+pub mod Order
+pub mod Words

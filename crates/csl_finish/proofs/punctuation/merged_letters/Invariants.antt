@@ -1,0 +1,6 @@
+use Rattle.std.proofs.Common.{◌≡◌, take}
+use Rattle.csl_finish.specs.Letters.{words}
+use Rattle.csl_finish.proofs.punctuation.merged_letters.Given as goal
+
+abbrev pub invariant-loop-index : goal.invariant-loop-index
+invariant-loop-index l = words l.stay.items ≡ words (take l.index l.letters)

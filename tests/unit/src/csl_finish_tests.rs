@@ -1,0 +1,9 @@
+//! Tests of finishing, of folding and of the order of keys. All expected values are written out by
+//! hand.
+
+mod finish;
+mod fold;
+mod keys;
+mod links;
+mod random;
+mod trees;

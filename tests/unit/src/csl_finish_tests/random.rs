@@ -1,0 +1,128 @@
+//! Random trees: letters and digits stay in their texts, and all else stays as it was.
+
+use crate::csl_finish_tests::finish::style_of;
+use crate::csl_finish_tests::trees::{describe, read};
+use csl_finish::finish;
+use csl_languages::Language;
+use std::alloc::Global;
+use std::process::Abort;
+
+/// Pieces of trees (`trees.rs`).
+static PIECES: [&str; 32] = [
+    "a",
+    "Moss.",
+    ".",
+    "..",
+    " . ",
+    "“",
+    "”",
+    "‘a",
+    "b’ ",
+    "’",
+    ", ",
+    ";",
+    ": ",
+    "?",
+    "!",
+    " ",
+    "...",
+    "«",
+    "» ",
+    "@x..",
+    "$y,,",
+    "#",
+    "/b.",
+    "1",
+    "“Why?”",
+    "((",
+    ". . .",
+    "É e\u{301}",
+    "/ ,",
+    "@” .",
+    "„",
+    "‚‘",
+];
+
+/// A generator of numbers: that of Knuth's MMIX.
+struct Numbers(u64);
+
+impl Numbers {
+    /// The next number below a bound.
+    fn below(&mut self, bound: u64) -> u64 {
+        self.0 = self
+            .0
+            .wrapping_mul(6_364_136_223_846_793_005)
+            .wrapping_add(1_442_695_040_888_963_407);
+        (self.0 >> 33) % bound
+    }
+}
+
+/// A description of sixteen pieces, with elements around some of them.
+fn description(rt: &impl Abort, alloc: Global, numbers: &mut Numbers) -> String {
+    let mut text = String::from_str(alloc, "a").expect(rt, "memory");
+    let mut depth = 0;
+    for _ in 0..16 {
+        let piece = match numbers.below(8) {
+            0 => {
+                depth += 1;
+                "["
+            }
+            1 if depth > 0 => {
+                depth -= 1;
+                "]"
+            }
+            _ => PIECES[numbers.below(32) as usize],
+        };
+        text.push('|').expect(rt, "memory");
+        text.push_str(piece).expect(rt, "memory");
+    }
+    for _ in 0..depth {
+        text.push_str("|]").expect(rt, "memory");
+    }
+    text
+}
+
+/// What has to stay of a piece: all of a link, a markup, a place and an end of an element, and the
+/// letters and digits of a text.
+fn kept(rt: &impl Abort, alloc: Global, piece: &str) -> String {
+    let mut kept = String::new(alloc);
+    let is_text = !matches!(piece.chars().next(), Some('@' | '$' | '#' | '[' | ']'));
+    for letter in piece.chars() {
+        if !is_text || letter.is_alphanumeric() || letter == '/' {
+            kept.push(letter).expect(rt, "memory");
+        }
+    }
+    kept
+}
+
+/// Asserts that what has to stay of a tree stays.
+fn assert_kept(rt: &impl Abort, alloc: Global, language: Language, source: &str) {
+    let style = style_of(rt, alloc, language);
+    let mut tree = read(rt, alloc, source);
+    let before = describe(rt, alloc, &tree);
+    finish(alloc, &style, &mut tree).expect(rt, "memory");
+    let after = describe(rt, alloc, &tree);
+    let (mut old, mut new) = (before.split('|'), after.split('|'));
+    while let Some(piece) = old.next() {
+        let other = new.next().expect(rt, "as many pieces");
+        let (wanted, came) = (kept(rt, alloc, piece), kept(rt, alloc, other));
+        assert_eq!(rt; came.as_str(), wanted.as_str(), "in {after} of {before}");
+    }
+    assert!(rt; new.next().is_none(), "{after} of {before}");
+}
+
+#[test]
+fn letters_and_links_stay(rt: HostRuntime) {
+    let mut numbers = Numbers(93);
+    for language in [
+        Language::English,
+        Language::BritishEnglish,
+        Language::French,
+        Language::German,
+    ] {
+        for _ in 0..50 {
+            let source = description(&rt, rt.alloc(), &mut numbers);
+            assert_kept(&rt, rt.alloc(), language, source.as_str());
+        }
+    }
+}
