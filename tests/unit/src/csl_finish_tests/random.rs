@@ -44,6 +44,7 @@ static PIECES: [&str; 32] = [
 ];
 
 /// A generator of numbers: that of Knuth's MMIX.
+#[derive(Drop)]
 struct Numbers(u64);
 
 impl Numbers {
