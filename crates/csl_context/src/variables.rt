@@ -1,7 +1,7 @@
 //! Lookups of variables, for printing or silent (CSL 1.0.2, Appendix IV: Variables).
 //! Definitions: specs/RenderInput.antt, specs/Context.antt.
 
-ghost use Rattle.std.specs.Prelude.{◌≡◌, map, option_map};
+ghost use Rattle.std.specs.Prelude.{◌≡◌, ◌==◌, not, map, length, option_map};
 ghost use Rattle.lit_model.specs.Date.{date_view};
 ghost use Rattle.lit_model.specs.MaybeTyped.{maybe_view};
 ghost use Rattle.lit_model.specs.Page.{pages_view};
@@ -9,13 +9,14 @@ ghost use Rattle.lit_model.specs.Person.{person_view};
 ghost use Rattle.lit_model.specs.Text.{chunks};
 ghost use Rattle.csl_elements.specs.declared.taxonomy.Variable.{Variable};
 ghost use Rattle.csl_entry.specs.Answers.{cow_view};
+ghost use Rattle.csl_entry.specs.LentText.{lent_chunks};
 ghost use Rattle.csl_entry.specs.NumberResult.{result_view};
 ghost use Rattle.csl_context.specs.RenderInput.{peek_number, peek_page, peek_standard, peek_names, peek_date};
 ghost use Rattle.csl_context.specs.Context.{Looks, GivesBy, Runs, render_input, after_resolve};
 
 use crate::context::Context;
 use crate::error::RenderError;
-use csl_entry::{EntryLike, NumberVariableResult, PageVariableResult};
+use csl_entry::{EntryLike, LentText, NumberVariableResult, PageVariableResult};
 use csl_style::{
     DateVariable, Kind, NameVariable, NumberVariable, PageVariable, StandardVariable, Variable,
 };
@@ -110,6 +111,27 @@ impl<'s, T: EntryLike> Context<'s, T> {
         )
     }
 
+    /// Looks up a standard variable in a form silently. Returns the same as
+    /// [`Context::peek_standard_variable`], lent if the entry holds it.
+    ///
+    /// # Errors
+    /// As [`Context::peek_standard_variable`].
+    pub fn peek_text(
+        &self,
+        form: LongShortForm,
+        variable: StandardVariable,
+    ) -> Result<Option<LentText<'s>>, RenderError>
+        ensures { Looks (option_map lent_chunks) result
+            (peek_standard (render_input T.answers self.now) self.now.state form variable) self.now }
+    {
+        self.ensure_live()?;
+        let text = Variable::Standard(variable);
+        if self.is_suppressed(text) {
+            return Ok(None);
+        }
+        Ok(self.instance.lend_text(self.writing.alloc, form, variable)?)
+    }
+
     /// Looks up a name variable silently (CSL 1.0.2, Name Variables). Returns the cite's answer, or
     /// no names if the variable is suppressed.
     ///
@@ -129,6 +151,22 @@ impl<'s, T: EntryLike> Context<'s, T> {
             return Ok(Vec::new(alloc));
         }
         Ok(self.instance.resolve_name_variable(alloc, variable)?)
+    }
+
+    /// Whether [`Context::peek_name_variable`] returns a person.
+    ///
+    /// # Errors
+    /// As [`Context::peek_name_variable`].
+    pub fn peek_has_persons(&self, variable: NameVariable) -> Result<bool, RenderError>
+        ensures { Looks (λ found. found) result (not (length (peek_names
+            (render_input T.answers self.now) self.now.state variable) == 0)) self.now }
+    {
+        self.ensure_live()?;
+        let names = Variable::Name(variable);
+        if self.is_suppressed(names) {
+            return Ok(false);
+        }
+        Ok(self.instance.has_persons(self.writing.alloc, variable)?)
     }
 
     /// Looks up a date variable silently (CSL 1.0.2, Date Variables). Returns the cite's answer, or

@@ -16,3 +16,4 @@ pub mod ShownForms
 pub mod ToldApart
 pub mod Kept
 pub mod SnapshotsEqual
+mod LentTexts

@@ -13,6 +13,7 @@ pub mod EntryStandard
 pub mod Instance
 pub mod Language
 pub mod LentForm
+pub mod LentText
 pub mod Letters
 pub mod NameForm
 pub mod NameProperties

@@ -13,6 +13,7 @@ pub(crate) mod numeric_text;
 mod page;
 mod standard;
 
+use crate::lent_text::LentText;
 use crate::taxonomy::EntryLike;
 use csl_elements::{
     DateVariable, Kind, NameVariable, NumberVariable, PageVariable, StandardVariable,
@@ -66,12 +67,25 @@ impl EntryLike for Entry {
         standard::standard_variable(alloc, self, form, variable)
     }
 
+    fn lend_text(
+        &self,
+        alloc: Global,
+        form: LongShortForm,
+        variable: StandardVariable,
+    ) -> Result<Option<LentText<'_>>, Memory> {
+        standard::lent_text(alloc, self, form, variable)
+    }
+
     fn resolve_name_variable(
         &self,
         alloc: Global,
         variable: NameVariable,
     ) -> Result<Vec<Cow<'_, Person>>, Memory> {
         name::name_variable(alloc, self, variable)
+    }
+
+    fn has_persons(&self, alloc: Global, variable: NameVariable) -> Result<bool, Memory> {
+        name::has_persons(alloc, self, variable)
     }
 
     fn resolve_date_variable(

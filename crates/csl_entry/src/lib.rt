@@ -9,6 +9,7 @@ mod compare;
 mod entry;
 mod forms;
 mod label;
+mod lent_text;
 mod number_result;
 mod snapshot;
 mod taxonomy;
@@ -24,6 +25,7 @@ pub use compare::{
 pub use entry::{csl_language, legislation_kind, recording_kind};
 pub use forms::{DisambiguatedNameForm, NameDisambiguationProperties};
 pub use label::Alphanumerical;
+pub use lent_text::LentText;
 pub use number_result::{NumberOrPageVariableResult, NumberVariableResult, PageVariableResult};
 pub use snapshot::Snapshot;
 pub use taxonomy::EntryLike;

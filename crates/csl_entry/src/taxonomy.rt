@@ -2,6 +2,7 @@
 //! Variables).
 //! Definitions: specs/Answers.antt.
 
+use crate::lent_text::LentText;
 use csl_elements::{
     DateVariable, Kind, NameVariable, NumberVariable, PageVariable, StandardVariable,
 };
@@ -15,9 +16,10 @@ use std::borrow::{Cow, CowStr};
 /// ghost member `answers` defines. The key and the language are not among the answers, and no
 /// rendering asks for them.
 pub trait EntryLike {
-    ghost use Rattle.std.specs.Prelude.{◌≡◌, ℕ, Bool, List, Option, IfOk, map, option_map};
+    ghost use Rattle.std.specs.Prelude.{◌≡◌, ◌==◌, ℕ, Bool, not, List, length, Option, IfOk, map, option_map};
     ghost use Rattle.std.specs.Cow.{cow_str_bytes};
     ghost use Rattle.csl_entry.specs.Answers.{Answers, cow_view};
+    ghost use Rattle.csl_entry.specs.LentText.{lent_chunks};
     ghost use Rattle.lit_model.specs.Date.{date_view};
     ghost use Rattle.lit_model.specs.MaybeTyped.{maybe_view};
     ghost use Rattle.lit_model.specs.Numeric.{numeric_view};
@@ -75,6 +77,23 @@ pub trait EntryLike {
         ensures { IfOk result (λ found. option_map (cow_view chunks) found
             ≡ (answers self.now).standards form variable) };
 
+    /// Returns the same as [`EntryLike::resolve_standard_variable`], lent if the entry holds it. Tests
+    /// and dry runs ask this. By default it is the answer of that call.
+    fn lend_text(
+        &self,
+        alloc: Global,
+        form: LongShortForm,
+        variable: StandardVariable,
+    ) -> Result<Option<LentText<'_>>, Memory>
+        ensures { IfOk result (λ found. option_map lent_chunks found
+            ≡ (answers self.now).standards form variable) }
+    {
+        match self.resolve_standard_variable(alloc, form, variable)? {
+            Some(text) => Ok(Some(LentText::Chunks(text))),
+            None => Ok(None),
+        }
+    }
+
     /// Returns the persons in order, or an empty list if there are none (CSL 1.0.2, Name
     /// Variables).
     fn resolve_name_variable(
@@ -84,6 +103,15 @@ pub trait EntryLike {
     ) -> Result<Vec<Cow<'_, Person>>, Memory>
         ensures { IfOk result (λ found. map (cow_view person_view) found.items
             ≡ (answers self.now).names variable) };
+
+    /// Whether [`EntryLike::resolve_name_variable`] returns a person. Tests and dry runs ask this. By
+    /// default that call answers it.
+    fn has_persons(&self, alloc: Global, variable: NameVariable) -> Result<bool, Memory>
+        ensures { IfOk result (λ found. found
+            ≡ not (length ((answers self.now).names variable) == 0)) }
+    {
+        Ok(!self.resolve_name_variable(alloc, variable)?.is_empty())
+    }
 
     /// Returns the date (CSL 1.0.2, Date Variables).
     fn resolve_date_variable(

@@ -174,14 +174,14 @@ pub(crate) fn is_present<'s, T: EntryLike>(
 {
     match variable {
         Variable::Standard(variable) => {
-            match ctx.peek_standard_variable(LongShortForm::Long, variable)? {
-                Some(text) => Ok(!text.as_ref().is_white_space()),
+            match ctx.peek_text(LongShortForm::Long, variable)? {
+                Some(text) => Ok(!text.is_white_space()),
                 None => Ok(false),
             }
         }
         Variable::Number(variable) => Ok(ctx.peek_number_variable(variable)?.is_some()),
         Variable::Page(variable) => Ok(ctx.peek_pages(variable)?.is_some()),
-        Variable::Name(variable) => Ok(!ctx.peek_name_variable(variable)?.is_empty()),
+        Variable::Name(variable) => Ok(ctx.peek_has_persons(variable)?),
         Variable::Date(variable) => {
             let found = ctx.peek_date_variable(variable)?;
             Ok(as_deref(&found).is_some())

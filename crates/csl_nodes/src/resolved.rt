@@ -13,7 +13,7 @@ ghost use Rattle.csl_nodes.specs.Text as spec;
 ghost use Rattle.csl_nodes.specs.Usage.{info_view};
 
 use crate::number_or_page::resolve_number_or_page;
-use crate::silent::{peek_number, peek_pages};
+use crate::silent::{peek_number, peek_pages, peek_text};
 use crate::special_form::{shows_terms_and_values, shows_variable};
 use crate::usage::UsageInfo;
 use csl_context::{Context, RenderError};
@@ -77,8 +77,8 @@ pub(crate) fn peek_prints<'s, T: EntryLike>(
         return Ok(None);
     }
     match variable {
-        Variable::Standard(variable) => match peek_standard(ctx, form, variable)? {
-            Some(answer) => Ok(Some(!answer.as_ref().is_empty())),
+        Variable::Standard(variable) => match peek_text(ctx, form, variable)? {
+            Some(answer) => Ok(Some(!answer.is_empty())),
             None => Ok(None),
         },
         Variable::Number(variable) => match peek_number(ctx, variable)? {

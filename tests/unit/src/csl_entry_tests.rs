@@ -2,6 +2,7 @@
 
 mod alike;
 mod answers;
+mod asked;
 mod citation_label;
 mod cite;
 mod instance;

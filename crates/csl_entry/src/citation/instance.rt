@@ -1,6 +1,6 @@
 //! A cite with its entry, and its answers to a style.
 
-ghost use Rattle.std.specs.Prelude.{◌≡◌, map, IfOk, option_map};
+ghost use Rattle.std.specs.Prelude.{◌≡◌, ◌==◌, not, map, length, IfOk, option_map};
 ghost use Rattle.lit_model.specs.Date.{date_view};
 ghost use Rattle.lit_model.specs.MaybeTyped.{maybe_view};
 ghost use Rattle.lit_model.specs.Page.{pages_view};
@@ -9,6 +9,7 @@ ghost use Rattle.lit_model.specs.Text.{chunks};
 ghost use Rattle.csl_entry.specs.Answers.{cow_view};
 ghost use Rattle.csl_entry.specs.Cite.{disambiguation_of, payload_of};
 ghost use Rattle.csl_entry.specs.Instance as spec;
+ghost use Rattle.csl_entry.specs.LentText.{lent_chunks};
 ghost use Rattle.csl_entry.specs.NumberResult.{result_view, number_or_page_view};
 ghost use Rattle.csl_entry.specs.Numbers.{IsNoteNumber};
 
@@ -18,6 +19,7 @@ use crate::citation::cite::{
 use crate::citation::letters::letter;
 use crate::entry::chunk::one_chunk;
 use crate::entry::numeric_text::numeric_or_text;
+use crate::lent_text::LentText;
 use crate::number_result::{NumberOrPageVariableResult, NumberVariableResult, PageVariableResult};
 use crate::taxonomy::EntryLike;
 use csl_elements::{
@@ -178,6 +180,26 @@ impl<'s, T: EntryLike> InstanceContext<'s, T> {
         }
     }
 
+    /// Returns the same as [`InstanceContext::resolve_standard_variable`], lent if the entry holds
+    /// it.
+    pub fn lend_text(
+        &self,
+        alloc: Global,
+        form: LongShortForm,
+        variable: StandardVariable,
+    ) -> Result<Option<LentText<'s>>, Memory>
+        ensures { IfOk result (λ found. option_map lent_chunks found
+            ≡ spec.resolve_standard (spec.instance_of T.answers self.now) form variable) }
+    {
+        match variable {
+            StandardVariable::YearSuffix => lent_suffix(
+                alloc,
+                &self.cite_props.speculative.disambiguation,
+            ),
+            _ => self.entry.lend_text(alloc, form, variable),
+        }
+    }
+
     /// Returns the cite's answer to a name variable, which is its entry's answer: the persons in
     /// order, or an empty list if there are none (CSL 1.0.2, Name Variables).
     pub fn resolve_name_variable(
@@ -189,6 +211,15 @@ impl<'s, T: EntryLike> InstanceContext<'s, T> {
             ≡ spec.resolve_names (spec.instance_of T.answers self.now) variable) }
     {
         self.entry.resolve_name_variable(alloc, variable)
+    }
+
+    /// Whether [`InstanceContext::resolve_name_variable`] returns a person.
+    pub fn has_persons(&self, alloc: Global, variable: NameVariable) -> Result<bool, Memory>
+        ensures { IfOk result (λ found. found
+            ≡ not (length (spec.resolve_names (spec.instance_of T.answers self.now) variable)
+            == 0)) }
+    {
+        self.entry.has_persons(alloc, variable)
     }
 
     /// Returns the cite's answer to a date variable, which is its entry's answer (CSL 1.0.2, Date
@@ -254,5 +285,16 @@ fn year_suffix<'s>(
         DisambiguateState::None
         | DisambiguateState::NameDisambiguation(_)
         | DisambiguateState::Choose => Ok(None),
+    }
+}
+
+/// The letters of the year suffix, if the cite has one.
+fn lent_suffix<'s>(alloc: Global, state: &DisambiguateState) -> Result<Option<LentText<'s>>, Memory>
+    ensures { IfOk result (λ found. option_map lent_chunks found
+        ≡ spec.year_suffix (disambiguation_of state.now)) }
+{
+    match year_suffix(alloc, state)? {
+        Some(text) => Ok(Some(LentText::Chunks(text))),
+        None => Ok(None),
     }
 }

@@ -1,6 +1,6 @@
 //! The answers of an entry to name variables (CSL 1.0.2, Appendix IV: Name Variables).
 
-ghost use Rattle.std.specs.Prelude.{◌≡◌, map, option_copied, IfOk};
+ghost use Rattle.std.specs.Prelude.{◌≡◌, ◌==◌, not, map, length, option_copied, IfOk};
 ghost use Rattle.lit_model.specs.declared.person.PersonRole.TheVariants as role;
 ghost use Rattle.lit_model.specs.Person.{person_view};
 ghost use Rattle.lit_model.specs.Select.{clause_view, bound_select, audio_video};
@@ -61,6 +61,25 @@ pub(super) fn name_variable(
         | NameVariable::Interviewer
         | NameVariable::Recipient
         | NameVariable::ReviewedAuthor => Ok(Vec::new(alloc)),
+    }
+}
+
+/// Whether the answer to a name variable has a person. Authors and editors are not listed for it.
+pub(super) fn has_persons(
+    alloc: Global,
+    entry: &Entry,
+    variable: NameVariable,
+) -> Result<bool, Memory>
+    ensures { IfOk result (λ found. found
+        ≡ not (length (spec.names_of entry.now variable) == 0)) }
+{
+    match variable {
+        NameVariable::Author => Ok(!authors(Some(entry)).is_empty()),
+        NameVariable::CollectionEditor => Ok(!editors(entry.get_collection()).is_empty()),
+        NameVariable::ContainerAuthor => Ok(!authors(entry.get_container()).is_empty()),
+        NameVariable::Editor => Ok(!editors_or_of_container(entry).is_empty()),
+        NameVariable::OriginalAuthor => Ok(!authors(entry.get_original()).is_empty()),
+        _ => Ok(!name_variable(alloc, entry, variable)?.is_empty()),
     }
 }
 

@@ -5,6 +5,7 @@ ghost use Rattle.csl_entry.specs.Answers.{cow_view};
 ghost use Rattle.csl_entry.specs.Answers as spec;
 ghost use Rattle.csl_entry.specs.CitationLabel.{label};
 ghost use Rattle.csl_entry.specs.EntryStandard.{own_location, own_publisher, own_title, press_name, press_place, repository, in_form, language_answer, standard_of, verbatim_chunk, web_address};
+ghost use Rattle.csl_entry.specs.LentText.{lent_chunks};
 ghost use Rattle.lit_model.specs.declared.text.ChunkKind.TheVariants.{Normal};
 ghost use Rattle.lit_model.specs.Select.{clause_view};
 ghost use Rattle.lit_model.specs.Text.{chunks};
@@ -12,6 +13,7 @@ ghost use Rattle.lit_model.specs.Text.{chunks};
 use crate::entry::chunk::one_chunk;
 use crate::entry::language::csl_language;
 use crate::label::citation_label::Alphanumerical;
+use crate::lent_text::LentText;
 use csl_elements::StandardVariable;
 use lit_model::select::{event, volume_title};
 use lit_model::{
@@ -114,6 +116,39 @@ pub(crate) fn standard_variable(
         | StandardVariable::Status
         | StandardVariable::YearSuffix => Ok(None),
     }
+}
+
+/// Lends the entry's answer to a standard variable: a text that the entry holds in one piece is
+/// not copied.
+pub(crate) fn lent_text(
+    alloc: Global,
+    entry: &Entry,
+    form: LongShortForm,
+    variable: StandardVariable,
+) -> Result<Option<LentText<'_>>, Memory>
+    ensures { IfOk result (λ found. option_map lent_chunks found
+        ≡ standard_of entry.now form variable) }
+{
+    match variable {
+        StandardVariable::CitationKey => Ok(verbatim(Some(entry.key()))),
+        StandardVariable::DOI => Ok(verbatim(entry.doi())),
+        StandardVariable::ISBN => Ok(verbatim(entry.isbn())),
+        StandardVariable::ISSN => Ok(verbatim(entry.issn())),
+        StandardVariable::PMCID => Ok(verbatim(entry.pmcid())),
+        StandardVariable::PMID => Ok(verbatim(entry.pmid())),
+        StandardVariable::URL => Ok(verbatim(web_address(entry.url_any()))),
+        _ => match standard_variable(alloc, entry, form, variable)? {
+            Some(text) => Ok(Some(LentText::Chunks(text))),
+            None => Ok(None),
+        },
+    }
+}
+
+/// The text as one chunk that no style changes, if there is a text, borrowed from the entry.
+fn verbatim(text: Option<&str>) -> Option<LentText<'_>>
+    ensures { option_map lent_chunks result ≡ verbatim_chunk (option_copied text.entry) }
+{
+    Some(LentText::Verbatim(text?))
 }
 
 /// The text in the requested form, borrowed from the entry.

@@ -100,6 +100,13 @@ impl EntryLike for Snapshot {
         }
     }
 
+    fn has_persons(&self, _alloc: Global, variable: NameVariable) -> Result<bool, Memory> {
+        match answer_at(&self.names, variable) {
+            Some(persons) => Ok(!persons.as_slice().is_empty()),
+            None => Ok(false),
+        }
+    }
+
     fn resolve_date_variable(
         &self,
         _alloc: Global,

@@ -136,12 +136,6 @@ fn assert_lent(
 fn pages_that_an_entry_holds_are_lent(rt: HostRuntime) {
     let alloc = rt.alloc();
     assert_lent(&rt, alloc, Some("7-9"), "lent 7-9", "owned 7-9");
-    assert_lent(
-        &rt,
-        alloc,
-        Some("'passim"),
-        "lent 'passim",
-        "owned 'passim",
-    );
+    assert_lent(&rt, alloc, Some("'passim"), "lent 'passim", "owned 'passim");
     assert_lent(&rt, alloc, None, "none", "none");
 }
