@@ -1,11 +1,11 @@
 //! The lists of persons of a names node, one for each variable or merged (CSL 1.0.2, Names; Name
 //! Variables: editortranslator).
 
-ghost use Rattle.std.specs.Prelude.{◌≡◌, [], ◌∷◌, ◌++◌, map, IfOk, OnOk};
+ghost use Rattle.std.specs.Prelude.{◌≡◌, [], ◌∷◌, ◌++◌, not, map, IfOk, OnOk};
 ghost use Rattle.lit_model.specs.Person.{person_view};
 ghost use Rattle.csl_entry.specs.Answers.{cow_view};
 ghost use Rattle.csl_context.specs.RenderInput.{peek_names};
-ghost use Rattle.csl_context.specs.Context.{Runs, GivesBy, render_input};
+ghost use Rattle.csl_context.specs.Context.{Runs, Gives, GivesBy, render_input};
 ghost use Rattle.csl_names.specs.NamesLists as spec;
 
 use csl_context::{Context, RenderError};
@@ -105,6 +105,21 @@ fn peek_names<'s, T: EntryLike>(
     }
 }
 
+/// Whether a variable has a person, by a silent lookup.
+#[tactic(auto, using(crate::proofs::NoPersons::none_by_length))]
+fn has_persons<'s, T: EntryLike>(
+    ctx: &Context<'s, T>,
+    variable: NameVariable,
+) -> Result<bool, Memory>
+    ensures { Gives result (not (spec.has_none (peek_names (render_input T.answers ctx.now)
+        ctx.now.state variable))) }
+{
+    match ctx.peek_has_persons(variable) {
+        Ok(found) => Ok(found),
+        Err(_) => Err(Memory),
+    }
+}
+
 /// The list of each variable, by lookups for printing.
 fn each_resolved<'s, T: EntryLike>(
     ctx: &mut Context<'s, T>,
@@ -138,7 +153,7 @@ pub fn no_persons<'s, T: EntryLike>(
         ctx.now.state variables.now)) }
 {
     for variable in variables {
-        if !peek_names(ctx, *variable)?.is_empty() {
+        if has_persons(ctx, *variable)? {
             return Ok(false);
         }
     }
