@@ -1,12 +1,24 @@
 //! A snapshot of an entry: its answers to named variables and kinds, as a value (CSL 1.0.2,
 //! Appendix III: Types; Appendix IV: Variables).
 
-ghost use Rattle.std.specs.Prelude.{◌≡◌, Bool, false, IfOk};
+ghost use Rattle.std.specs.Prelude.{◌≡◌, Bool, false, map, IfOk};
 ghost use Rattle.std.specs.Bool.{Decides};
 ghost use Rattle.csl_elements.specs.NamedSet.{NamedItem, named_set};
+ghost use Rattle.lit_model.specs.Date.{date_view};
+ghost use Rattle.lit_model.specs.MaybeTyped.{maybe_view};
+ghost use Rattle.lit_model.specs.Numeric.{numeric_view};
+ghost use Rattle.lit_model.specs.Page.{pages_view};
+ghost use Rattle.lit_model.specs.Person.{person_view};
+ghost use Rattle.lit_model.specs.Text.{chunks};
 ghost use Rattle.csl_entry.specs.Answers.{Answers};
 ghost use Rattle.csl_entry.specs.Alike.{SameAnswer, SameNamedAnswers};
-ghost use Rattle.csl_entry.specs.Snapshot.{no_answers, kept_of, snapshot_of, snapshot_answers};
+ghost use Rattle.csl_entry.specs.Snapshot.{
+  keyed,
+  no_answers,
+  kept_of,
+  snapshot_of,
+  snapshot_answers,
+};
 
 mod answers;
 mod copies;
@@ -74,5 +86,37 @@ impl Snapshot {
             dates,
             kinds,
         })
+    }
+
+    /// The answers that a program has in other ways, as from a file. Of two answers to a variable
+    /// the first counts; persons in an empty list are no answer.
+    pub fn of_parts(
+        numbers: Vec<(NumberVariable, MaybeTyped<Numeric>)>,
+        pages: Vec<(PageVariable, MaybeTyped<PageRanges>)>,
+        long_texts: Vec<(StandardVariable, ChunkedString)>,
+        short_texts: Vec<(StandardVariable, ChunkedString)>,
+        names: Vec<(NameVariable, Vec<Person>)>,
+        dates: Vec<(DateVariable, Date)>,
+        kinds: Vec<Kind>,
+    ) -> Snapshot
+        ensures { kept_of result ≡ record {
+          numbers = map (keyed (maybe_view numeric_view)) numbers.items;
+          pages = map (keyed (maybe_view pages_view)) pages.items;
+          long_texts = map (keyed chunks) long_texts.items;
+          short_texts = map (keyed chunks) short_texts.items;
+          names = map (keyed (λ persons. map person_view persons.items)) names.items;
+          dates = map (keyed date_view) dates.items;
+          kinds = kinds.items;
+        } }
+    {
+        Snapshot {
+            numbers,
+            pages,
+            long_texts,
+            short_texts,
+            names,
+            dates,
+            kinds,
+        }
     }
 }

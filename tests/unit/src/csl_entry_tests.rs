@@ -14,3 +14,4 @@ mod name_form;
 mod name_properties;
 mod number_result;
 mod numbers;
+mod parts;
