@@ -12,7 +12,8 @@ PATH = re.compile(r"[\w.+*{},/-]*\w[\w.+*{},/-]*")
 # What examples invent: the stems of files and folders of a caller, of a language to come, and of a
 # file that there cannot be. And files of the Rust crate.
 INVENTED = ("my_cites", "house", "apa", "danish", "Streams")
-ELSEWHERE = ("taxonomy.rs", "rendering/mod.rs", "rendering/names.rs")
+ELSEWHERE = ("elem.rs", "taxonomy.rs", "citation_label.rs", "rendering/mod.rs",
+             "rendering/names.rs")
 # The made-up documents, whose paths nobody is to name.
 TESTS = "tools/document_tests"
 

@@ -1,12 +1,6 @@
-//! Tests of the public calls of `csl_context`, with ample memory. The expected texts are written by
-//! hand.
+//! Tests of the public calls of `csl_context`.
 
-mod acts;
-mod equal;
-mod film;
+mod calls;
 mod limits;
-mod lookups;
-mod queries;
-mod samples;
-mod words;
-mod writes;
+mod setup;
+mod states;

@@ -1,17 +1,7 @@
-//! Tests of the answers of entries and cites to a style.
+//! Tests of the answers of entries and cites to a style, and of the forms of names.
 
-mod alike;
-mod answers;
-mod asked;
-mod citation_label;
-mod cite;
-mod instance;
-mod language;
+mod cites;
 mod lent;
-mod letters;
-mod looks;
-mod name_form;
 mod name_properties;
 mod number_result;
-mod numbers;
 mod parts;

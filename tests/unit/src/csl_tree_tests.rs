@@ -1,16 +1,8 @@
-//! Tests of the output tree. All expected values are written out by hand.
+//! Tests of the output tree.
 
-mod copies;
-mod elem;
-mod equal;
-mod flags;
+mod answers;
+mod changes;
 mod flat;
-mod formatting;
-mod links;
-mod names;
-mod places;
-mod read;
-mod removal;
 mod stack;
 mod trees;
 mod write;

@@ -1,7 +1,9 @@
-//! What the tests of several libraries need: lists of few items, and texts by their chunks.
+//! What the tests of several libraries need: lists of few items, texts by their chunks, and writers
+//! that refuse texts.
 
 use lit_model::{ChunkKind, ChunkedString, StringChunk};
 use std::alloc::Global;
+use std::fmt;
 use std::process::Abort;
 
 /// A list of one item.
@@ -37,4 +39,52 @@ fn kind_of(chunk: &str) -> (ChunkKind, &str) {
         return (ChunkKind::Math, math);
     }
     (ChunkKind::Normal, chunk)
+}
+
+/// A writer that takes the given number of texts and refuses those after them.
+#[derive(Drop)]
+pub(crate) struct Few {
+    left: usize,
+    pub(crate) took: String,
+}
+
+impl Few {
+    pub(crate) fn of(alloc: Global, texts: usize) -> Few {
+        Few {
+            left: texts,
+            took: String::new(alloc),
+        }
+    }
+}
+
+impl fmt::Write for Few {
+    fn write_str(&mut self, s: &str) -> fmt::Result {
+        if self.left == 0 {
+            return Err(fmt::Error);
+        }
+        self.left -= 1;
+        match self.took.push_str(s) {
+            Ok(()) => Ok(()),
+            Err(_) => Err(fmt::Error),
+        }
+    }
+}
+
+/// Asserts that a call returns an error of its writer if that refuses a text, for each text in turn,
+/// and else writes the wanted text.
+pub(crate) fn assert_written<F: Fn(&mut Few) -> fmt::Result>(
+    rt: &impl Abort,
+    alloc: Global,
+    write: &F,
+    wanted: &str,
+) {
+    for texts in 0..200 {
+        let mut out = Few::of(alloc, texts);
+        if write(&mut out).is_ok() {
+            assert_eq!(rt; out.took.as_str(), wanted);
+            assert!(rt; texts > 0, "a text is written");
+            return;
+        }
+    }
+    panic!(rt; "fewer texts are written");
 }

@@ -1,5 +1,5 @@
-//! Tests of the command `cite`, with the built-in entries and styles. The expected texts are
-//! written by hand.
+//! Tests of the command `cite`, with the built-in entries and styles. `tools/test_script` reads the
+//! rows, too.
 
 use crate::csl_cli_tests::words::{Refusal, assert_refusals, assert_run};
 use std::alloc::Global;

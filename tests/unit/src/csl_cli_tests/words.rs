@@ -1,9 +1,10 @@
-//! Tests of the program's words: its status and the texts that it writes. The expected texts are
-//! written by hand.
+//! Tests of the program's words: its status and the texts that it writes. `tools/test_script` reads
+//! the rows, too.
 
-use crate::csl_cli_tests::assertions::{assert_status, assert_text};
+use crate::csl_cli_tests::shared::{assert_status, assert_text};
 use crate::shared::put;
-use csl_cli::run::run;
+use csl_cli::run::{run, run_into};
+use csl_common::TrackingWriter;
 use std::alloc::Global;
 use std::process::Abort;
 
@@ -17,7 +18,7 @@ const ESCAPED: &str =
 
 const AND: &str = "(Title: <span style=\"font-style: italic;\">R&amp;D</span>)\n";
 
-static ROWS: [Row; 19] = [
+static ROWS: [Row; 21] = [
     // A title in a format.
     (&["title", "Nature", "html"], 0, NATURE, ""),
     (&["title", "Nature", "plain"], 0, "(Title: Nature)\n", ""),
@@ -33,6 +34,9 @@ static ROWS: [Row; 19] = [
     (&["title", "R&D", "html"], 0, AND, ""),
     (&["title", "R&D", "plain"], 0, "(Title: R&D)\n", ""),
     (&[], 0, NATURE, ""),
+    // The leaf text of HTML. Rows have more of them (`tests/rows`).
+    (&["leaf", "<span style=\"\">x</span>"], 0, "x\n", ""),
+    (&["leaf", "a&b"], 5, "", "not html\n"),
     // The label of an entry.
     (&["label", "crazy-rich"], 0, "Kwa14\n", ""),
     (&["label", "dependence"], 0, "FOW87\n", ""),
@@ -119,4 +123,18 @@ fn words_and_what_they_give(rt: HostRuntime) {
         assert_run(&rt, rt.alloc(), *of, *status, *out, *fault);
     }
     assert_refusals(&rt, rt.alloc(), &REFUSALS);
+}
+
+#[test]
+fn no_words_are_a_title(rt: HostRuntime) {
+    let alloc = rt.alloc();
+    let (mut wrote, mut said) = (String::new(alloc), String::new(alloc));
+    let mut out = TrackingWriter::new(&mut wrote);
+    let mut fault = TrackingWriter::new(&mut said);
+    let status = run_into(alloc, &[], &mut out, &mut fault);
+    out.into_inner();
+    fault.into_inner();
+    assert_status(&rt, status, 0, &[]);
+    assert_text(&rt, wrote.as_str(), NATURE, &["no words"]);
+    assert_text(&rt, said.as_str(), "", &["no words"]);
 }

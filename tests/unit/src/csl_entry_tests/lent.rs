@@ -1,141 +1,240 @@
-//! Texts and pages that an entry holds are lent.
+//! What an entry holds is lent, by works, snapshots and an entry type with the provided methods.
 
-use crate::assertions::assert_of;
-use crate::shared::alone;
-use csl_elements::{Named, PageVariable, StandardVariable};
-use csl_entry::{EntryLike, Snapshot};
+use crate::assertions::{assert_of, assert_same};
+use crate::shared::{alone, put};
+use csl_elements::{NameVariable, Named, PageVariable, StandardVariable};
+use csl_entry::{EntryLike, LentText, Snapshot};
 use csl_laws::table::Table;
-use lit_model::{Entry, EntryType, LongShortForm, MaybeTyped, PageRanges};
+use lit_model::{
+    Entry, EntryType, FormatString, LongShortForm, MaybeTyped, PageRanges, Person, PersonRole,
+    PersonsWithRoles,
+};
 use std::alloc::Global;
 use std::borrow::Cow;
 use std::collections::BTreeSet;
 use std::process::Abort;
+use std::test::Fail;
 
-fn titled(rt: &impl Abort, alloc: Global, kind: EntryType, title: &str) -> Entry {
-    Entry::titled(alloc, "key", kind, title).expect(rt, "memory")
+fn person(rt: &impl Abort, alloc: Global, name: &str) -> Result<Vec<Person>, Fail> {
+    Ok(alone(rt, alloc, Person::institution(alloc, name)?))
 }
 
-/// A chapter of an anthology that is in a series.
-fn chapter(rt: &impl Abort, alloc: Global) -> Entry {
-    let series = titled(rt, alloc, EntryType::Book, "Everyman's Library");
-    let anthology = titled(rt, alloc, EntryType::Anthology, "Ghost Stories").with_parents(alone(
-        rt, alloc, series,
-    ));
-    titled(rt, alloc, EntryType::Chapter, "The Signal-Man").with_parents(alone(
-        rt, alloc, anthology,
-    ))
-}
-
-/// Whether the text in the short form is borrowed from the entry, or `None` if there is no answer.
-fn is_borrowed(
-    rt: &impl Abort,
-    alloc: Global,
-    entry: &Entry,
-    variable: StandardVariable,
-) -> Option<bool> {
-    match entry
-        .resolve_standard_variable(alloc, LongShortForm::Short, variable)
-        .expect(rt, "memory")
-    {
-        Some(Cow::Borrowed(_)) => Some(true),
-        Some(Cow::Owned(_)) => Some(false),
-        None => None,
+/// The pages that the text spells, or the text.
+fn pages(alloc: Global, text: &str) -> Result<MaybeTyped<PageRanges>, Fail> {
+    match PageRanges::parse(alloc, text) {
+        Ok(pages) => Ok(MaybeTyped::Typed(pages)),
+        Err(_) => Ok(MaybeTyped::String(String::from_str(alloc, text)?)),
     }
 }
 
-#[test]
-fn texts_that_an_entry_holds_are_lent(rt: HostRuntime) {
-    let chapter = chapter(&rt, rt.alloc());
-    for (variable, wanted) in [
-        (StandardVariable::TitleShort, Some(true)),
-        (StandardVariable::CollectionTitle, Some(true)),
-        (StandardVariable::CitationKey, Some(false)),
-    ] {
-        let borrowed = is_borrowed(&rt, rt.alloc(), &chapter, variable);
-        assert_of(&rt, &borrowed, &wanted, &variable);
-    }
+/// An article with a DOI, an empty ISBN, a blank title, pages, an author and a translator, in a
+/// journal with an editor.
+fn article(rt: &impl Abort, alloc: Global) -> Result<Entry, Fail> {
+    let journal = Entry::titled(alloc, "journal", EntryType::Periodical, "Nature")?.with_editors(
+        person(rt, alloc, "Eve")?,
+    );
+    let mut article = Entry::titled(alloc, "key", EntryType::Article, " ")?
+        .with_authors(person(rt, alloc, "Ann")?)
+        .with_page_range(pages(alloc, "7-9")?)
+        .with_parents(alone(rt, alloc, journal));
+    let translators = PersonsWithRoles {
+        names: person(rt, alloc, "Ben")?,
+        role: PersonRole::Translator,
+    };
+    article.affiliated = Some(alone(rt, alloc, translators));
+    article.set_doi(alloc, "10.1007/x")?;
+    article.set_isbn(alloc, "")?;
+    Ok(article)
 }
 
-/// The page variable alone.
-fn pages_alone(rt: &impl Abort, alloc: Global) -> Named {
-    let mut pages = BTreeSet::new(alloc);
-    pages.insert(PageVariable::Page).expect(rt, "memory");
-    Named {
+/// Its variables, without the label and without the editor.
+fn named(alloc: Global) -> Result<Named, Fail> {
+    let mut named = Named {
         numbers: BTreeSet::new(alloc),
-        pages,
+        pages: BTreeSet::new(alloc),
         standards: BTreeSet::new(alloc),
         names: BTreeSet::new(alloc),
         dates: BTreeSet::new(alloc),
         kinds: BTreeSet::new(alloc),
+    };
+    named.pages.insert(PageVariable::Page)?;
+    for variable in [
+        StandardVariable::DOI,
+        StandardVariable::ISBN,
+        StandardVariable::Title,
+    ] {
+        named.standards.insert(variable)?;
     }
-}
-
-/// The pages that the text spells, or `'` and a text that is not pages.
-fn pages(rt: &impl Abort, alloc: Global, text: &str) -> MaybeTyped<PageRanges> {
-    match text.strip_prefix('\'') {
-        Some(text) => MaybeTyped::String(String::from_str(alloc, text).expect(rt, "memory")),
-        None => MaybeTyped::Typed(PageRanges::parse(alloc, text).expect(rt, "pages")),
+    for variable in [
+        NameVariable::Author,
+        NameVariable::Composer,
+        NameVariable::Translator,
+    ] {
+        named.names.insert(variable)?;
     }
+    Ok(named)
 }
 
-/// The entry's answer to the page variable as [`pages`] reads it, behind `lent` or `owned`, or
-/// `none`.
-fn lent_pages<T: EntryLike>(rt: &impl Abort, alloc: Global, entry: &T) -> String {
-    let found = entry
-        .lend_pages(alloc, PageVariable::Page)
-        .expect(rt, "memory");
-    let Some(found) = found else {
-        return String::from_str(alloc, "none").expect(rt, "memory");
-    };
-    let how = match &found {
-        Cow::Borrowed(_) => "lent",
-        Cow::Owned(_) => "owned",
-    };
-    let text = match found.as_ref() {
-        MaybeTyped::Typed(pages) => format!(in alloc; "{how} {pages}").expect(rt, "memory"),
-        MaybeTyped::String(text) => format!(in alloc; "{how} '{text}").expect(rt, "memory"),
-    };
-    drop(found);
-    text
+/// A table of the blank title, the pages and the author.
+fn table(rt: &impl Abort, alloc: Global) -> Result<Table, Fail> {
+    let mut table = Table::new(alloc);
+    let title = (StandardVariable::Title, FormatString::plain(alloc, " ")?);
+    put(rt, &mut table.texts, title);
+    put(
+        rt,
+        &mut table.names,
+        (NameVariable::Author, person(rt, alloc, "Ann")?),
+    );
+    table.pages = Some(pages(alloc, "7-9")?);
+    Ok(table)
 }
 
-fn assert_pages<T: EntryLike>(
+/// How a text is lent, whether it is empty, and whether it is white space.
+type Lent = Option<(&'static str, bool, bool)>;
+
+fn lent_text<T: EntryLike>(
+    alloc: Global,
+    entry: &T,
+    variable: StandardVariable,
+) -> Result<Lent, Fail> {
+    let found = entry.lend_text(alloc, LongShortForm::Long, variable)?;
+    Ok(found.map(|text| {
+        let how = match &text {
+            LentText::Verbatim(_) => "verbatim",
+            LentText::Chunks(Cow::Borrowed(_)) => "lent",
+            LentText::Chunks(Cow::Owned(_)) => "owned",
+        };
+        (how, text.is_empty(), text.is_white_space())
+    }))
+}
+
+const BLANK: Lent = Some(("lent", false, true));
+
+/// A variable, and how the article, its snapshot and the table lend it.
+static TEXTS: [(StandardVariable, [Lent; 3]); 5] = [
+    (
+        StandardVariable::DOI,
+        [
+            Some(("verbatim", false, false)),
+            Some(("lent", false, false)),
+            None,
+        ],
+    ),
+    (
+        StandardVariable::ISBN,
+        [
+            Some(("verbatim", true, true)),
+            Some(("lent", true, true)),
+            None,
+        ],
+    ),
+    (StandardVariable::Title, [BLANK, BLANK, BLANK]),
+    (
+        StandardVariable::CitationLabel,
+        [Some(("owned", false, false)), None, None],
+    ),
+    (StandardVariable::URL, [None, None, None]),
+];
+
+#[test]
+fn texts_are_lent_to_ask_about_them(rt: HostRuntime) -> Result<(), Fail> {
+    let alloc = rt.alloc();
+    let (article, table) = (article(&rt, alloc)?, table(&rt, alloc)?);
+    let kept = Snapshot::new(alloc, &article, &named(alloc)?)?;
+    for (variable, wanted) in &TEXTS {
+        let found = [
+            lent_text(alloc, &article, *variable)?,
+            lent_text(alloc, &kept, *variable)?,
+            lent_text(alloc, &table, *variable)?,
+        ];
+        assert_of(&rt, &found, wanted, *variable);
+    }
+    Ok(())
+}
+
+/// Whether the entry lends these pages. It has them.
+fn lends<T: EntryLike>(
     rt: &impl Abort,
     alloc: Global,
     entry: &T,
-    wanted: &'static str,
-    of: &'static str,
-) {
-    let found = lent_pages(rt, alloc, entry);
-    assert_of(rt, &found.as_str(), &wanted, &of);
+    wanted: &MaybeTyped<PageRanges>,
+) -> Result<bool, Fail> {
+    let found = entry
+        .lend_pages(alloc, PageVariable::Page)?
+        .expect(rt, "pages");
+    assert!(rt; found.as_ref() == wanted, "other pages");
+    Ok(matches!(found, Cow::Borrowed(_)))
 }
 
-/// An article with these pages, if there are some, its snapshot, and a table of them. A table has the
-/// provided method.
-fn assert_lent(
-    rt: &impl Abort,
-    alloc: Global,
-    text: Option<&str>,
-    lent: &'static str,
-    owned: &'static str,
-) {
-    let mut work = titled(rt, alloc, EntryType::Article, "Nature");
-    let mut table = Table::new(alloc);
-    if let Some(text) = text {
-        work.page_range = Some(pages(rt, alloc, text));
-        table.pages = Some(pages(rt, alloc, text));
-    }
-    let named = pages_alone(rt, alloc);
-    let kept = Snapshot::new(alloc, &work, &named).expect(rt, "memory");
-    assert_pages(rt, alloc, &work, lent, "an entry");
-    assert_pages(rt, alloc, &kept, lent, "a snapshot");
-    assert_pages(rt, alloc, &table, owned, "a table");
+/// Whether an answer is lent, if there is one.
+fn is_lent<T: Drop>(found: &Option<Cow<'_, T>>) -> Option<bool> {
+    found
+        .as_ref()
+        .map(|found| matches!(found, Cow::Borrowed(_)))
 }
 
 #[test]
-fn pages_that_an_entry_holds_are_lent(rt: HostRuntime) {
+fn texts_and_pages_that_an_entry_holds_are_lent(rt: HostRuntime) -> Result<(), Fail> {
+    let (alloc, form) = (rt.alloc(), LongShortForm::Short);
+    let (mut article, mut table) = (article(&rt, alloc)?, table(&rt, alloc)?);
+    for (variable, wanted) in [
+        (StandardVariable::TitleShort, Some(true)),
+        (StandardVariable::ContainerTitle, Some(true)),
+        (StandardVariable::CitationKey, Some(false)),
+    ] {
+        let found = article.resolve_standard_variable(alloc, form, variable)?;
+        assert_of(&rt, &is_lent(&found), &wanted, variable);
+    }
+    for text in ["7-9", "passim"] {
+        let wanted = pages(alloc, text)?;
+        article.page_range = Some(pages(alloc, text)?);
+        table.pages = Some(pages(alloc, text)?);
+        let kept = Snapshot::new(alloc, &article, &named(alloc)?)?;
+        let are_lent = [
+            lends(&rt, alloc, &article, &wanted)?,
+            lends(&rt, alloc, &kept, &wanted)?,
+            lends(&rt, alloc, &table, &wanted)?,
+        ];
+        assert_of(&rt, &are_lent, &[true, true, false], text);
+    }
+    table.pages = None;
+    assert_same(
+        &rt,
+        &is_lent(&table.lend_pages(alloc, PageVariable::Page)?),
+        &None,
+    );
+    Ok(())
+}
+
+/// A variable, and whether the article, its snapshot and the table have persons.
+static PERSONS: [(NameVariable, [bool; 3]); 5] = [
+    (NameVariable::Author, [true, true, true]),
+    (NameVariable::Editor, [true, false, false]),
+    (NameVariable::ContainerAuthor, [false, false, false]),
+    (NameVariable::Translator, [true, true, false]),
+    (NameVariable::Composer, [false, false, false]),
+];
+
+fn has_persons<T: EntryLike>(
+    alloc: Global,
+    entry: &T,
+    variable: NameVariable,
+) -> Result<bool, Fail> {
+    Ok(entry.has_persons(alloc, variable)?)
+}
+
+#[test]
+fn an_entry_has_persons_or_none(rt: HostRuntime) -> Result<(), Fail> {
     let alloc = rt.alloc();
-    assert_lent(&rt, alloc, Some("7-9"), "lent 7-9", "owned 7-9");
-    assert_lent(&rt, alloc, Some("'passim"), "lent 'passim", "owned 'passim");
-    assert_lent(&rt, alloc, None, "none", "none");
+    let (article, table) = (article(&rt, alloc)?, table(&rt, alloc)?);
+    let kept = Snapshot::new(alloc, &article, &named(alloc)?)?;
+    for (variable, wanted) in &PERSONS {
+        let found = [
+            has_persons(alloc, &article, *variable)?,
+            has_persons(alloc, &kept, *variable)?,
+            has_persons(alloc, &table, *variable)?,
+        ];
+        assert_of(&rt, &found, wanted, *variable);
+    }
+    Ok(())
 }

@@ -1,213 +1,86 @@
-//! Calls of functions that allocate, each with ample memory: the bibliography entry of a book, the
-//! choice of nodes, the tests of a branch and whether it holds, the sort key of a date, and a text
-//! after a layout.
+//! Calls that rows do not make: the choice of nodes, the tests of a branch, the sort key of a date, a
+//! text after a layout, and names after a text.
 
-use csl_context::Context;
-use csl_entry::{CiteProperties, DisambiguateState, InstanceContext};
+use crate::assertions::assert_same;
+use crate::csl_render_tests::setup::{Setup, TITLE, assert_html, title_nodes};
+use crate::shared::alone;
+use csl_entry::DisambiguatedNameForm;
+use csl_names::{write_name, write_name_list};
 use csl_nodes::branch_holds;
-use csl_render::{
-    BranchConditionIter, RenderCsl, bibliography_entry, choose_children, full_sort_key,
-};
-use csl_style::{
-    Choose, ChooseBranch, Formatting, Layout, LayoutRenderingElement, Scope, StandardVariable,
-    Style, StyleSettings, Text, Variable,
-};
-use csl_tree::BufWriteFormat;
-use lit_model::{Date, Entry, EntryType};
-use std::alloc::Global;
-use std::process::Abort;
+use csl_render::{BranchConditionIter, RenderCsl, choose_children, full_sort_key};
+use csl_style::{Choose, ChooseBranch, EtAl, Formatting, Kind, Layout, Name, NameVariable};
+use lit_model::{Date, Person};
+use std::borrow::Cow;
+use std::test::Fail;
 
-const TITLE: Variable = Variable::Standard(StandardVariable::Title);
-
-/// The title of the entry.
-fn title_nodes(rt: &impl Abort, alloc: Global) -> Vec<LayoutRenderingElement> {
-    let title = Text::variable(TITLE).into();
-    let nodes = vec![in alloc; title];
-    nodes.expect(rt, "memory")
-}
-
-/// A choice that takes the title, if there is one.
-fn choice(rt: &impl Abort, alloc: Global) -> Choose {
-    let titles = vec![in alloc; TITLE];
+#[test]
+fn a_choice_takes_the_nodes_of_a_branch(rt: HostRuntime) -> Result<(), Fail> {
+    let alloc = rt.alloc();
+    let setup = Setup::new(&rt, alloc)?;
     let branch = ChooseBranch {
-        variable: Some(titles.expect(rt, "memory")),
-        ..ChooseBranch::new(title_nodes(rt, alloc))
+        type_: Some(alone(&rt, alloc, Kind::Book)),
+        variable: Some(alone(&rt, alloc, TITLE)),
+        ..ChooseBranch::new(title_nodes(&rt, alloc))
     };
-    Choose::new(alloc, branch)
-}
-
-/// A style whose bibliography entries are titles. Its cites are empty.
-fn style(rt: &impl Abort, alloc: Global) -> Style {
-    let citation = Layout::new(Vec::new(alloc));
-    let bibliography = Some(Layout::new(title_nodes(rt, alloc)));
-    let (macros, locales) = (Vec::new(alloc), Vec::new(alloc));
-    let settings = StyleSettings::default();
-    Style::new(alloc, settings, macros, citation, bibliography, locales).expect(rt, "a style")
-}
-
-/// A book with the title `T`.
-fn book(rt: &impl Abort, alloc: Global) -> Entry {
-    Entry::titled(alloc, "key", EntryType::Book, "T").expect(rt, "memory")
-}
-
-/// The plain text of the bibliography entry.
-fn entry_text(
-    rt: &impl Abort,
-    alloc: Global,
-    style: &Style,
-    entry: &Entry,
-    cite_props: &CiteProperties<'_>,
-) -> String {
-    let rendered = bibliography_entry(alloc, style, entry, cite_props).expect(rt, "memory");
-    let rendered = rendered.expect(rt, "a bibliography");
-    let mut text = String::new(alloc);
-    let written = rendered.content.write_buf(&mut text, BufWriteFormat::Plain);
-    drop(rendered);
-    written.expect(rt, "memory");
-    text
-}
-
-/// 1 for each test of the branch that holds, and 0 for each other one.
-fn tests_of(
-    rt: &impl Abort,
-    alloc: Global,
-    branch: &ChooseBranch,
-    ctx: &Context<'_, Entry>,
-) -> String {
-    let mut tests = String::new(alloc);
-    for condition in BranchConditionIter::from_branch(branch, ctx) {
-        let digit = if condition.expect(rt, "memory") {
-            '1'
-        } else {
-            '0'
-        };
-        tests.push(digit).expect(rt, "memory");
+    let choose = Choose::new(alloc, branch);
+    let mut ctx = setup.context()?;
+    let mut count = 0;
+    for condition in BranchConditionIter::from_branch(&choose.if_, &ctx) {
+        assert_same(&rt, &condition, &Ok(true));
+        count += 1;
     }
-    tests
-}
-
-/// The tests of the first branch of a choice, for a cite of the entry.
-fn tests_for(
-    rt: &impl Abort,
-    alloc: Global,
-    style: &Style,
-    choose: &Choose,
-    cite: InstanceContext<'_, Entry>,
-) -> String {
-    let ctx = Context::new(alloc, style, cite, Scope::Citation).expect(rt, "memory");
-    let tests = tests_of(rt, alloc, &choose.if_, &ctx);
-    drop(ctx);
-    tests
-}
-
-/// Whether the first branch of a choice holds, for a cite of the entry.
-fn holds_for(
-    rt: &impl Abort,
-    alloc: Global,
-    style: &Style,
-    choose: &Choose,
-    cite: InstanceContext<'_, Entry>,
-) -> bool {
-    let ctx = Context::new(alloc, style, cite, Scope::Citation).expect(rt, "memory");
-    let holds = branch_holds(&ctx, &choose.if_).expect(rt, "memory");
-    drop(ctx);
-    holds
-}
-
-/// The number of nodes that the choice takes, for a cite of the entry.
-fn count_of(
-    rt: &impl Abort,
-    alloc: Global,
-    style: &Style,
-    choose: &Choose,
-    cite: InstanceContext<'_, Entry>,
-) -> usize {
-    let mut ctx = Context::new(alloc, style, cite, Scope::Citation).expect(rt, "memory");
-    let nodes = choose_children(choose, &mut ctx).expect(rt, "memory");
-    drop(ctx);
-    match nodes {
-        Some(nodes) => nodes.len(),
-        None => 0,
-    }
-}
-
-/// The HTML of a cite by a layout, and of a text after it in the same context.
-fn html_with_a_text_after(
-    rt: &impl Abort,
-    alloc: Global,
-    style: &Style,
-    layout: &Layout,
-    cite: InstanceContext<'_, Entry>,
-) -> String {
-    let mut ctx = Context::new(alloc, style, cite, Scope::Citation).expect(rt, "memory");
-    layout.render(&mut ctx).expect(rt, "memory");
-    ctx.push_str("x").expect(rt, "memory");
-    let rendered = ctx.finish().expect(rt, "memory");
-    let html = rendered.content.to_text(alloc, BufWriteFormat::Html);
-    drop(rendered);
-    html.expect(rt, "memory")
+    assert_same(&rt, &(count, branch_holds(&ctx, &choose.if_)?), &(2, true));
+    let nodes = choose_children(&choose, &mut ctx)?;
+    assert_same(&rt, &nodes.map(|nodes| nodes.len()), &Some(1));
+    Ok(())
 }
 
 #[test]
-fn a_bibliography_entry_is_rendered(rt: HostRuntime) {
-    let style = style(&rt, rt.alloc());
-    let entry = book(&rt, rt.alloc());
-    let cite_props = CiteProperties::first(DisambiguateState::None);
-    let text = entry_text(&rt, rt.alloc(), &style, &entry, &cite_props);
-    assert_eq!(rt; text.as_str(), "T");
-    drop(style);
-    drop(entry);
-}
-
-#[test]
-fn a_choice_takes_the_nodes_of_a_branch(rt: HostRuntime) {
-    let style = style(&rt, rt.alloc());
-    let entry = book(&rt, rt.alloc());
-    let cite_props = CiteProperties::first(DisambiguateState::None);
-    let choose = choice(&rt, rt.alloc());
-    let cite = InstanceContext {
-        entry: &entry,
-        cite_props: &cite_props,
-        sorting: None,
-        kind: None,
-    };
-    let tests = tests_for(&rt, rt.alloc(), &style, &choose, cite);
-    assert_eq!(rt; tests.as_str(), "1");
-    let holds = holds_for(&rt, rt.alloc(), &style, &choose, cite);
-    assert!(rt; holds, "the book has a title");
-    let count = count_of(&rt, rt.alloc(), &style, &choose, cite);
-    assert!(rt; count == 1, "the title is taken");
-    drop(choose);
-    drop(style);
-    drop(entry);
-}
-
-#[test]
-fn a_text_after_a_layout_is_not_in_its_formatting(rt: HostRuntime) {
-    let style = style(&rt, rt.alloc());
-    let entry = book(&rt, rt.alloc());
-    let cite_props = CiteProperties::first(DisambiguateState::None);
-    let cite = InstanceContext {
-        entry: &entry,
-        cite_props: &cite_props,
-        sorting: None,
-        kind: None,
-    };
+fn a_text_after_a_layout_is_not_in_its_formatting(rt: HostRuntime) -> Result<(), Fail> {
+    let setup = Setup::new(&rt, rt.alloc())?;
     let layout = Layout {
         formatting: Formatting::italic(),
         ..Layout::new(title_nodes(&rt, rt.alloc()))
     };
-    let html = html_with_a_text_after(&rt, rt.alloc(), &style, &layout, cite);
-    let wanted = "<span style=\"font-style: italic;\">T</span>x";
-    assert_eq!(rt; html.as_str(), wanted);
-    drop(layout);
-    drop(style);
-    drop(entry);
+    let mut ctx = setup.context()?;
+    layout.render(&mut ctx)?;
+    ctx.push_str("x")?;
+    let wanted = "<span style=\"font-style: italic;\">Vortex</span>x";
+    assert_html(&rt, rt.alloc(), ctx, wanted)
 }
 
 #[test]
-fn a_sort_key_has_year_month_and_day(rt: HostRuntime) {
+fn a_sort_key_has_year_month_and_day(rt: HostRuntime) -> Result<(), Fail> {
     let date = Date::new(2014, Some(4), Some(1), None, false).expect(&rt, "a date");
-    let key = full_sort_key(rt.alloc(), &date).expect(&rt, "memory");
-    assert_eq!(rt; key.as_str(), "P0000020140502");
+    assert_eq!(rt;
+        full_sort_key(rt.alloc(), &date)?.as_str(),
+        "P0000020140502"
+    );
+    Ok(())
+}
+
+/// The gap before `et al.` depends on the text before the list, none of whose names is shown.
+#[test]
+fn names_follow_a_text(rt: HostRuntime) -> Result<(), Fail> {
+    let alloc = rt.alloc();
+    let setup = Setup::new(&rt, alloc)?;
+    let (name, et_al, author) = (Name::new(alloc), EtAl::default(), NameVariable::Author);
+    let options = name.options.as_inherited().name_options();
+    let kwan = Person::new(alloc, "Kwan", "Kevin")?;
+    let persons = alone(&rt, alloc, Cow::Borrowed(&kwan));
+    let mut ctx = setup.context()?;
+    ctx.push_str("by")?;
+    write_name_list(&mut ctx, &name, options, &et_al, author, &persons, &[None])?;
+    assert_html(&rt, alloc, ctx, "by et al.")?;
+    let mut ctx = setup.context()?;
+    ctx.push_str("by")?;
+    write_name(
+        &mut ctx,
+        &name,
+        options,
+        &kwan,
+        DisambiguatedNameForm::LongFull,
+        false,
+    )?;
+    assert_html(&rt, alloc, ctx, "byKevin Kwan")
 }

@@ -1,15 +1,16 @@
 //! The default values of options that a style does not set.
 
-use crate::assertions::assert_same;
+use crate::assertions::{assert_same, assert_text};
 use csl_style::{
     ChooseMatch, DateParts, DelimiterBehavior, DemoteNonDroppingParticle, EtAl, FontStyle,
-    FontVariant, FontWeight, LabelPluralize, LongShortForm, Name, NameForm, OtherTerm,
-    PageRangeFormat, StyleSettings, TermForm, TextDecoration, VariablelessLabel, VerticalAlign,
+    FontVariant, FontWeight, InheritedNameOptions, LabelPluralize, LongShortForm, NameForm,
+    OtherTerm, PageRangeFormat, StyleSettings, TermForm, TextDecoration, VariablelessLabel,
+    VerticalAlign,
 };
-use std::process::Abort;
 
 #[test]
 fn options_have_their_defaults(rt: HostRuntime) {
+    let display_and_sort = DemoteNonDroppingParticle::DisplayAndSort;
     assert_same(&rt, &FontStyle::default(), &FontStyle::Normal);
     assert_same(&rt, &FontVariant::default(), &FontVariant::Normal);
     assert_same(&rt, &FontWeight::default(), &FontWeight::Normal);
@@ -30,33 +31,32 @@ fn options_have_their_defaults(rt: HostRuntime) {
     assert_same(
         &rt,
         &DemoteNonDroppingParticle::default(),
-        &DemoteNonDroppingParticle::DisplayAndSort,
+        &display_and_sort,
     );
-}
-
-fn assert_name(rt: &impl Abort, name: Name) {
-    assert_same(rt, &name.options.form, &None);
-    assert_same(rt, &name.options.initialize, &None);
-    assert_same(rt, &name.parts.len(), &0);
-    drop(name);
-}
-
-fn assert_settings(rt: &impl Abort, settings: StyleSettings) {
-    assert_same(rt, &settings.page_range_format, &None);
+    assert_same(&rt, &EtAl::default().term, &OtherTerm::EtAl);
+    assert_same(&rt, &VariablelessLabel::default().form, &TermForm::Long);
+    let settings = StyleSettings::default();
+    assert_same(&rt, &settings.page_range_format, &None);
     assert_same(
-        rt,
+        &rt,
         &settings.demote_non_dropping_particle,
-        &DemoteNonDroppingParticle::DisplayAndSort,
+        &display_and_sort,
     );
-    assert_same(rt, &settings.initialize_with_hyphen, &true);
-    assert_same(rt, &settings.names.et_al_min, &None);
-    drop(settings);
+    assert_same(&rt, &settings.initialize_with_hyphen, &true);
 }
 
 #[test]
-fn names_and_settings_without_options(rt: HostRuntime) {
-    assert_name(&rt, Name::new(rt.alloc()));
-    assert_same(&rt, &EtAl::default().term, &OtherTerm::EtAl);
-    assert_same(&rt, &VariablelessLabel::default().form, &TermForm::Long);
-    assert_settings(&rt, StyleSettings::default());
+fn names_have_their_defaults(rt: HostRuntime) {
+    let options = InheritedNameOptions::default();
+    assert_text(&rt, Some(options.names_delimiter()), Some(""));
+    let options = options.name_options();
+    assert_same(&rt, &options.and, &None);
+    assert_text(&rt, Some(options.delimiter), Some(", "));
+    assert_same(&rt, &options.et_al_min, &None);
+    assert_same(&rt, &options.et_al_use_last, &false);
+    assert_same(&rt, &options.form, &NameForm::Long);
+    assert_same(&rt, &options.initialize, &true);
+    assert_text(&rt, options.initialize_with, None);
+    assert_same(&rt, &options.name_as_sort_order, &None);
+    assert_text(&rt, Some(options.sort_separator), Some(", "));
 }

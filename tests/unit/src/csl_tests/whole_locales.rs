@@ -1,10 +1,14 @@
 //! Tests that the locales have all that CSL's own have: how many terms, ordinals and parts of dates,
 //! and a sum over all of them and the options. The expected figures are those that
-//! `tools/compare_locales --sums` prints of the files of CSL's own locales.
+//! `tools/compare_locales --sums` prints of the files of CSL's own locales. Also the tags of
+//! languages.
 
 use crate::assertions::assert_same;
-use csl::Language;
 use csl::style::{Date, DatePart, Locale, OrdinalTerm, TermEntry};
+use csl::{
+    Language, Memory, brazilian_portuguese, british_english, dutch, english, french, german,
+    italian, japanese, polish, simplified_chinese, spanish,
+};
 use std::alloc::Global;
 use std::fmt::Debug;
 use std::process::Abort;
@@ -192,15 +196,32 @@ fn figures(rt: &impl Abort, alloc: Global, locale: &Locale) -> Figures {
     (locale.terms.len(), locale.ordinals.len(), parts, sum.rows)
 }
 
+/// The locale of a language, by the call of its name.
+fn locale_by_name(alloc: Global, language: Language) -> Result<Locale, Memory> {
+    match language {
+        Language::English => english(alloc),
+        Language::BritishEnglish => british_english(alloc),
+        Language::German => german(alloc),
+        Language::French => french(alloc),
+        Language::Spanish => spanish(alloc),
+        Language::Italian => italian(alloc),
+        Language::BrazilianPortuguese => brazilian_portuguese(alloc),
+        Language::Dutch => dutch(alloc),
+        Language::Polish => polish(alloc),
+        Language::Japanese => japanese(alloc),
+        Language::SimplifiedChinese => simplified_chinese(alloc),
+    }
+}
+
 #[test]
 fn languages_have_all_of_their_locales(rt: HostRuntime) -> Result<(), Fail> {
     let alloc = rt.alloc();
     for (tag, language, wanted) in &LANGUAGES {
         assert_same(&rt, &language.tag(), tag);
         assert_same(&rt, &Language::from_tag(*tag), &Some(*language));
-        let locale = language.locale(alloc)?;
+        let (locale, by_name) = (language.locale(alloc)?, locale_by_name(alloc, *language)?);
         assert_same(&rt, &figures(&rt, alloc, &locale), wanted);
-        drop(locale);
+        assert_same(&rt, &figures(&rt, alloc, &by_name), wanted);
     }
     Ok(())
 }

@@ -1,4 +1,4 @@
-//! Contents that are written into a flat tree by calls.
+//! Contents that are written into a flat tree by calls, and what these take of a limit.
 //!
 //! The words of a script have one space between them, and each stands for one call:
 //!
@@ -18,301 +18,155 @@ use csl_elements::Display;
 use csl_tree::{Elem, ElemChild, ElemChildren, ElemMeta, FlatTree, Formatted, Formatting};
 use std::alloc::Global;
 use std::process::Abort;
+use std::test::Fail;
 
 /// The text of an affix, or `None` if it is missing.
-fn read_affix(rt: &impl Abort, alloc: Global, word: &str) -> Option<Formatted> {
+fn read_affix(alloc: Global, word: &str) -> Result<Option<Formatted>, Fail> {
     if word.is_empty() {
-        return None;
+        return Ok(None);
     }
-    Some(read_formatted(rt, alloc, word))
-}
-
-/// Closes or discards the innermost part, by a word.
-fn close(rt: &impl Abort, tree: &mut FlatTree, alloc: Global, word: &str) {
-    if tree.depth() == 1 {
-        panic!(rt; "a part is open");
-    }
-    if let Some(affixes) = word.strip_prefix('}') {
-        let (before, after) = affixes.split_once('|').expect(rt, "there are two affixes");
-        let before = read_affix(rt, alloc, before);
-        let after = read_affix(rt, alloc, after);
-        tree.close_spliced(before, after).expect(rt, "memory");
-    } else if word == "!" {
-        tree.discard();
-    } else {
-        tree.close_elem(Some(Display::Block), Some(ElemMeta::Date))
-            .expect(rt, "memory");
-    }
-}
-
-/// An element without children.
-fn childless(alloc: Global) -> ElemChild {
-    ElemChild::from(Elem {
-        children: ElemChildren::new(alloc),
-        display: None,
-        meta: None,
-    })
+    Ok(Some(read_formatted(alloc, word)?))
 }
 
 /// Calls the function of a word.
-fn call(rt: &impl Abort, tree: &mut FlatTree, alloc: Global, word: &str) {
-    if word == "[" {
-        tree.open().expect(rt, "memory");
-    } else if let Some(text) = word.strip_prefix('=') {
-        tree.push_text(text, Formatting::default())
-            .expect(rt, "memory");
-    } else if word == "()" {
-        tree.push(childless(alloc)).expect(rt, "memory");
-    } else if word == "]" || word == "!" || word.starts_with('}') {
-        close(rt, tree, alloc, word);
-    } else {
-        tree.push(read_leaf(rt, alloc, word)).expect(rt, "memory");
+fn call(rt: &impl Abort, alloc: Global, tree: &mut FlatTree, word: &str) -> Result<(), Fail> {
+    if let Some(text) = word.strip_prefix('=') {
+        return Ok(tree.push_text(text, Formatting::default())?);
     }
+    if let Some(affixes) = word.strip_prefix('}') {
+        let (before, after) = affixes.split_once('|').expect(rt, "there are two affixes");
+        let (before, after) = (read_affix(alloc, before)?, read_affix(alloc, after)?);
+        return Ok(tree.close_spliced(before, after)?);
+    }
+    match word {
+        "[" => tree.open()?,
+        "]" => tree.close_elem(Some(Display::Block), Some(ElemMeta::Date))?,
+        "!" => tree.discard(),
+        "()" => tree.push(ElemChild::from(Elem {
+            children: ElemChildren::new(alloc),
+            display: None,
+            meta: None,
+        }))?,
+        _ => tree.push(read_leaf(rt, alloc, word)?)?,
+    }
+    Ok(())
 }
 
-/// The flat tree after the calls of a script.
-fn tree_of(rt: &impl Abort, alloc: Global, script: &str) -> FlatTree {
+/// A flat tree after the calls of a script, of which 1,000 bytes may be taken.
+fn tree_of(rt: &impl Abort, alloc: Global, script: &str) -> Result<FlatTree, Fail> {
     let mut tree = FlatTree::new(alloc);
+    tree.limit(1000);
     for word in script.split(' ') {
         if !word.is_empty() {
-            call(rt, &mut tree, alloc, word);
+            call(rt, alloc, &mut tree, word)?;
         }
     }
-    tree
+    Ok(tree)
 }
 
-/// The contents of the root.
-fn contents(rt: &impl Abort, tree: FlatTree) -> ElemChildren {
-    if tree.depth() != 1 {
-        panic!(rt; "the root alone is open");
-    }
-    tree.finish().expect(rt, "memory")
-}
-
-/// A script, and the tree after its calls.
-static CALLS: [(&str, &str); 22] = [
-    ("", ""),
-    ("a b", "ab"),
-    ("=a =b", "ab"),
-    ("=a /b c", "a /b c"),
-    ("a _ = $_ @_|u b", "ab"),
-    ("a $b @c|u #1 d", "a $b @c|u #1 d"),
-    ("a [ b ] c", "a ( b )block:date c"),
-    ("[ a [ b ] c ]", "( a ( b )block:date c )block:date"),
-    ("a [ b }<|> c", "a<b>c"),
-    ("a [ /b }<|> c", "a< /b >c"),
-    ("a [ /b }/<|/> /c", "a /<b>c"),
-    ("a [ b }| c", "abc"),
-    ("a [ #1 }<| b", "a< #1 b"),
-    ("[ [ a }<|> [ b }<|> }-|-", "-<a><b>-"),
-    ("[ a [ b }<|> c ] d", "( a<b>c )block:date d"),
-    ("a [ b !", "a"),
-    ("[ a [ b ! c ]", "( ac )block:date"),
-    ("a [ b [ c ] ! d", "ad"),
-    // A pushed element is kept, even without children.
-    ("a () b", "a ( ) b"),
-    ("[ () ]", "( ( ) )block:date"),
-    ("a [ () }<|> b", "a< ( ) >b"),
-    ("a [ () ! b", "ab"),
-];
-
-fn assert_calls(rt: &impl Abort, alloc: Global, &(script, wanted): &(&str, &str)) {
-    let tree = contents(rt, tree_of(rt, alloc, script));
-    assert_tree(rt, alloc, tree, wanted, script);
-}
-
-#[test]
-fn the_calls_of_a_script_build_a_tree(rt: HostRuntime) {
-    let calls: &[(&str, &str)] = &CALLS;
-    for row in calls {
-        assert_calls(&rt, rt.alloc(), row);
-    }
-}
-
-/// A script of empty parts, and the tree after its calls.
-static EMPTY: [(&str, &str); 8] = [
-    ("[ ]", ""),
-    ("a [ ] b", "ab"),
-    ("a [ _ $_ ] b", "ab"),
-    ("a [ }<|> b", "ab"),
-    ("a [ _ $_ }<|> b", "ab"),
-    ("[ [ ] }<|>", ""),
-    ("[ [ }<|> ]", ""),
-    ("a [ ! b", "ab"),
+/// A script, the tree after its calls, and how many bytes of a limit these take: each text its own,
+/// and each leaf and element 64 more, also a child that joins the last one.
+static CALLS: [(&str, &str, u64); 18] = [
+    ("", "", 0),
+    ("=", "", 0),
+    ("=ab =c", "abc", 67),
+    ("=ab /c", "ab /c", 131),
+    ("ab c", "abc", 131),
+    ("a _ $_ @_|u b", "ab", 130),
+    ("$abc", "$abc", 67),
+    ("@ab|cde", "@ab|cde", 69),
+    ("#1", "#1", 64),
+    // A pushed element is kept, even without children. An empty part leaves nothing.
+    ("()", "( )", 64),
+    ("[ ]", "", 0),
+    ("[ [ }<|> ]", "", 0),
+    ("[ a ]", "( a )block:date", 129),
+    ("[ a [ b ] c ]", "( a ( b )block:date c )block:date", 323),
+    ("a [ b }<|>>", "a<b>>", 261),
+    ("a [ /b }/<|/>", "a /<b>", 260),
+    ("[ [ a }<|> [ b }<|> }-|-", "-<a><b>-", 520),
+    ("[ a !", "", 65),
 ];
 
 #[test]
-fn an_empty_part_leaves_nothing(rt: HostRuntime) {
-    let empty: &[(&str, &str)] = &EMPTY;
-    for row in empty {
-        assert_calls(&rt, rt.alloc(), row);
+fn the_calls_of_a_script_build_a_tree(rt: HostRuntime) -> Result<(), Fail> {
+    let alloc = rt.alloc();
+    for (script, wanted, taken) in &CALLS {
+        let tree = tree_of(&rt, alloc, *script)?;
+        assert_of(
+            &rt,
+            &(tree.depth(), tree.room()),
+            &(1, 1000 - *taken),
+            *script,
+        );
+        assert_tree(&rt, alloc, &tree.finish()?, *wanted, *script)?;
     }
+    Ok(())
 }
 
 /// The number of open parts, and whether the innermost part is empty, has text, and ends in white
 /// space.
 type Flags = (usize, bool, bool, bool);
 
-fn flags(rt: &impl Abort, alloc: Global, script: &str) -> Flags {
-    let tree = tree_of(rt, alloc, script);
-    (
-        tree.depth(),
-        tree.is_empty(),
-        tree.has_text(),
-        tree.ends_in_white_space(),
-    )
-}
-
 /// A script, and the flags of the part that is open after it.
-static FLAGS: [(&str, Flags); 17] = [
-    ("", (1, true, false, false)),
-    ("a", (1, false, true, false)),
+static FLAGS: [(&str, Flags); 7] = [
     ("a~", (1, false, true, true)),
-    ("a~ [", (2, true, false, false)),
     ("a~ [ _ $_", (2, true, false, false)),
-    ("a~ [ #1", (2, false, false, false)),
     ("a~ [ b", (2, false, true, false)),
-    ("a~ [ b ]", (1, false, true, false)),
-    ("a [ b~ ]", (1, false, true, true)),
     ("a [ b~ }|", (1, false, true, true)),
-    ("a [ b~ }|>", (1, false, true, false)),
     ("a~ [ #1 ]", (1, false, true, true)),
-    ("a [ b~ !", (1, false, true, false)),
-    ("[ [ ] [ }<|>", (2, true, false, false)),
     ("[ [ [", (4, true, false, false)),
-    ("()", (1, false, false, false)),
     ("a~ [ ()", (2, false, false, false)),
 ];
 
-fn assert_flags(rt: &impl Abort, alloc: Global, &(script, wanted): &(&str, Flags)) {
-    assert_of(rt, &flags(rt, alloc, script), &wanted, &script);
+#[test]
+fn readers_of_the_innermost_part(rt: HostRuntime) -> Result<(), Fail> {
+    for (script, wanted) in &FLAGS {
+        let tree = tree_of(&rt, rt.alloc(), *script)?;
+        let ends = tree.ends_in_white_space();
+        let flags = (tree.depth(), tree.is_empty(), tree.has_text(), ends);
+        assert_of(&rt, &flags, wanted, *script);
+    }
+    Ok(())
 }
 
 #[test]
-fn readers_of_the_innermost_part(rt: HostRuntime) {
-    let rows: &[(&str, Flags)] = &FLAGS;
-    for row in rows {
-        assert_flags(&rt, rt.alloc(), row);
-    }
-}
-
-/// A tree of a thousand spliced parts.
-fn thousand(rt: &impl Abort, alloc: Global) -> FlatTree {
-    let mut tree = FlatTree::new(alloc);
+fn a_thousand_splices_are_one_text(rt: HostRuntime) -> Result<(), Fail> {
+    let mut tree = FlatTree::new(rt.alloc());
     for _ in 0..1000 {
-        call(rt, &mut tree, alloc, "[");
-        call(rt, &mut tree, alloc, "a");
-        call(rt, &mut tree, alloc, "}<|>");
-    }
-    tree
-}
-
-#[test]
-fn a_thousand_splices_are_one_text(rt: HostRuntime) {
-    let tree = contents(&rt, thousand(&rt, rt.alloc()));
-    assert_same(&rt, &tree.str_len(), &3000);
-    assert_same(&rt, &tree.0.len(), &1);
-}
-
-/// A script, and how many bytes of a limit its calls take: each text its own, and each leaf and
-/// element 64 more, also a child that joins the last one.
-static TAKEN: [(&str, u64); 16] = [
-    ("", 0),
-    ("=", 0),
-    ("=ab", 66),
-    ("=ab =c", 67),
-    ("=ab /c", 131),
-    ("ab", 66),
-    ("ab c", 131),
-    ("$abc", 67),
-    ("@ab|cde", 69),
-    ("#1", 64),
-    ("()", 64),
-    ("[ ]", 0),
-    ("[ a ]", 129),
-    ("[ a }<|>>", 196),
-    ("[ }<|>>", 0),
-    ("[ a !", 65),
-];
-
-/// What is left of 1,000 bytes after the calls of a script.
-fn room_after(rt: &impl Abort, alloc: Global, script: &str) -> u64 {
-    let mut tree = FlatTree::new(alloc);
-    tree.limit(1000);
-    for word in script.split(' ') {
-        if !word.is_empty() {
-            call(rt, &mut tree, alloc, word);
+        for word in ["[", "a", "}<|>"] {
+            call(&rt, rt.alloc(), &mut tree, word)?;
         }
     }
-    let room = tree.room();
-    drop(tree);
-    room
+    let tree = tree.finish()?;
+    assert_same(&rt, &(tree.str_len(), tree.0.len()), &(3000, 1));
+    Ok(())
 }
 
 #[test]
-fn calls_take_bytes_of_a_limit(rt: HostRuntime) {
-    let rows: &[(&str, u64)] = &TAKEN;
-    for &(script, taken) in rows {
-        let room = room_after(&rt, rt.alloc(), script);
-        assert_of(&rt, &room, &(1000 - taken), script);
-    }
-}
-
-/// The tree of a text of one byte, for whose own 64 there is no room, and whether the call succeeds.
-fn refused_text(rt: &impl Abort, alloc: Global) -> (ElemChildren, bool) {
+fn a_call_beyond_the_limit_leaves_the_content(rt: HostRuntime) -> Result<(), Fail> {
+    let (alloc, plain) = (rt.alloc(), Formatting::default());
     let mut tree = FlatTree::new(alloc);
     tree.limit(64);
-    let is_written = tree.push_text("a", Formatting::default()).is_ok();
-    (contents(rt, tree), is_written)
-}
-
-#[test]
-fn a_text_beyond_the_limit_is_not_there(rt: HostRuntime) {
-    let (tree, is_written) = refused_text(&rt, rt.alloc());
-    assert_same(&rt, &is_written, &false);
-    assert_tree(&rt, rt.alloc(), tree, "", "a text of 65 bytes");
-}
-
-/// The tree `a ( b )`, whose element is closed without room for it, and then with room, and whether
-/// both calls succeed.
-fn closed_twice(rt: &impl Abort, alloc: Global) -> (ElemChildren, bool, bool) {
-    let mut tree = tree_of(rt, alloc, "a [ b");
-    tree.limit(63);
-    let first = tree.close_elem(None, None).is_ok();
-    tree.limit(64);
-    let second = tree.close_elem(None, None).is_ok();
-    (contents(rt, tree), first, second)
-}
-
-#[test]
-fn a_part_that_cannot_be_closed_keeps_its_children(rt: HostRuntime) {
-    let (tree, first, second) = closed_twice(&rt, rt.alloc());
-    assert_same(&rt, &(first, second), &(false, true));
-    assert_tree(&rt, rt.alloc(), tree, "a ( b )", "an element of 64 bytes");
-}
-
-#[test]
-fn a_call_beyond_the_limit_leaves_the_content(rt: HostRuntime) {
-    let alloc = rt.alloc();
+    assert_same(&rt, &tree.push_text("a", plain).is_ok(), &false);
+    assert_tree(&rt, alloc, &tree.finish()?, "", "a text of 65 bytes")?;
     let mut tree = FlatTree::new(alloc);
     tree.limit(67);
-    let plain = Formatting::default();
-    let first = tree.push_text("a", plain).is_ok();
-    let joined = tree.push_text("bc", plain).is_ok();
-    let refused = tree.push_text("d", plain).is_ok();
-    let room = tree.room();
-    let taken = tree.take(1).is_ok();
-    assert_same(
-        &rt,
-        &(first, joined, refused, taken),
-        &(true, true, false, false),
-    );
-    assert_same(&rt, &room, &0);
+    let texts = ["a", "bc", "d"].map(|text| tree.push_text(text, plain).is_ok());
+    assert_same(&rt, &texts, &[true, true, false]);
+    assert_same(&rt, &(tree.room(), tree.take(1).is_ok()), &(0, false));
+    assert_tree(&rt, alloc, &tree.finish()?, "abc", "a limit of 67 bytes")?;
+    // A part that cannot be closed keeps its children.
+    let mut tree = tree_of(&rt, alloc, "a [ b")?;
+    tree.limit(63);
+    assert_same(&rt, &tree.close_elem(None, None).is_ok(), &false);
+    tree.limit(64);
+    tree.close_elem(None, None)?;
     assert_tree(
         &rt,
         alloc,
-        contents(&rt, tree),
-        "abc",
-        "a limit of 67 bytes",
-    );
+        &tree.finish()?,
+        "a ( b )",
+        "an element of 64 bytes",
+    )
 }

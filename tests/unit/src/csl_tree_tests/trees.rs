@@ -11,9 +11,8 @@
 //! | `#3` | a place for a text of cite 3 |
 //! | `( a )` | an element around the children that `a` describes |
 //!
-//! In a text, `~` is a space and `_` is nothing. After the end of an element come its display and
-//! its meta: `)block`, `):date`, `)block:entry`. A meta other than `date`, `label` and `entry` is
-//! the name of an author.
+//! In a text, `~` is a space and `_` is nothing. After the end of an element may come its display and
+//! its meta: `)block`, `):date`, `)block:entry`. Any other meta is the name of an author.
 
 use crate::shared::{alone, put};
 use csl_elements::{Display, FontStyle, NameVariable};
@@ -22,150 +21,121 @@ use lit_model::Person;
 use std::alloc::Global;
 use std::mem;
 use std::process::Abort;
+use std::test::Fail;
 
 /// A block around a link, a markup, a place for a text of a cite, and a text of white space.
 pub const MIXED: &str = "( @/x|https://x.y/?a=1&b=2 $$m$ #7 ~ )block:entry";
 
 /// The text that a word describes.
-fn read_text(rt: &impl Abort, alloc: Global, word: &str) -> String {
+fn read_text(alloc: Global, word: &str) -> Result<String, Fail> {
     let mut text = String::new(alloc);
     for c in word.chars() {
-        match c {
-            '_' => {}
-            '~' => text.push(' ').expect(rt, "memory"),
-            c => text.push(c).expect(rt, "memory"),
+        if c != '_' {
+            text.push(if c == '~' { ' ' } else { c })?;
         }
     }
-    text
+    Ok(text)
 }
 
 /// The text that a word describes, with its formatting.
-pub fn read_formatted(rt: &impl Abort, alloc: Global, word: &str) -> Formatted {
+pub fn read_formatted(alloc: Global, word: &str) -> Result<Formatted, Fail> {
     let mut formatting = Formatting::default();
-    match word.strip_prefix('/') {
-        Some(word) => {
-            formatting.font_style = FontStyle::Italic;
-            formatting.add_text(read_text(rt, alloc, word))
-        }
-        None => formatting.add_text(read_text(rt, alloc, word)),
+    if word.starts_with('/') {
+        formatting.font_style = FontStyle::Italic;
     }
+    Ok(formatting.add_text(read_text(alloc, word.strip_prefix('/').unwrap_or(word))?))
 }
 
 /// A child that is not an element.
-pub fn read_leaf(rt: &impl Abort, alloc: Global, word: &str) -> ElemChild {
+pub fn read_leaf(rt: &impl Abort, alloc: Global, word: &str) -> Result<ElemChild, Fail> {
     if let Some(markup) = word.strip_prefix('$') {
-        return ElemChild::Markup(read_text(rt, alloc, markup));
+        return Ok(ElemChild::Markup(read_text(alloc, markup)?));
     }
     if let Some(link) = word.strip_prefix('@') {
         let (text, url) = link.split_once('|').expect(rt, "a link has an address");
-        return ElemChild::Link {
-            text: read_formatted(rt, alloc, text),
-            url: String::from_str(alloc, url).expect(rt, "memory"),
-        };
+        return Ok(ElemChild::Link {
+            text: read_formatted(alloc, text)?,
+            url: String::from_str(alloc, url)?,
+        });
     }
     if let Some(index) = word.strip_prefix('#') {
-        return ElemChild::Transparent {
+        return Ok(ElemChild::Transparent {
             cite_idx: index.parse::<usize>().expect(rt, "a number"),
             format: Formatting::default(),
-        };
+        });
     }
-    ElemChild::Text(read_formatted(rt, alloc, word))
-}
-
-/// The meta of names with one person for a variable.
-pub fn names(rt: &impl Abort, alloc: Global, name: &str, variable: NameVariable) -> ElemMeta {
-    let person = Person {
-        name: String::from_str(alloc, name).expect(rt, "memory"),
-        given_name: None,
-        prefix: None,
-        suffix: None,
-        alias: None,
-        comma_suffix: false,
-    };
-    let persons = alone(rt, alloc, person);
-    ElemMeta::Names(alone(rt, alloc, (persons, variable)))
+    Ok(ElemChild::Text(read_formatted(alloc, word)?))
 }
 
 /// The meta that a word names.
-fn read_meta(rt: &impl Abort, alloc: Global, word: &str) -> ElemMeta {
-    match word {
+fn read_meta(rt: &impl Abort, alloc: Global, word: &str) -> Result<ElemMeta, Fail> {
+    Ok(match word {
         "date" => ElemMeta::Date,
         "label" => ElemMeta::Label,
         "entry" => ElemMeta::Entry(3),
-        name => names(rt, alloc, name, NameVariable::Author),
-    }
-}
-
-/// The display that a word names.
-fn read_display(rt: &impl Abort, word: &str) -> Display {
-    match word {
-        "block" => Display::Block,
-        "indent" => Display::Indent,
-        "left" => Display::LeftMargin,
-        "right" => Display::RightInline,
-        _ => panic!(rt; "no display"),
-    }
+        name => {
+            let persons = alone(rt, alloc, Person::institution(alloc, name)?);
+            ElemMeta::Names(alone(rt, alloc, (persons, NameVariable::Author)))
+        }
+    })
 }
 
 /// The element with these children and the display and meta after its end.
-fn read_elem(rt: &impl Abort, alloc: Global, children: Vec<ElemChild>, end: &str) -> ElemChild {
+fn read_elem(
+    rt: &impl Abort,
+    alloc: Global,
+    children: Vec<ElemChild>,
+    end: &str,
+) -> Result<ElemChild, Fail> {
     let (display, meta) = end.split_once(':').unwrap_or((end, ""));
-    let display = if display.is_empty() {
-        None
-    } else {
-        Some(read_display(rt, display))
+    let display = match display {
+        "" => None,
+        "indent" => Some(Display::Indent),
+        _ => Some(Display::Block),
     };
     let meta = if meta.is_empty() {
         None
     } else {
-        Some(read_meta(rt, alloc, meta))
+        Some(read_meta(rt, alloc, meta)?)
     };
-    ElemChild::from(Elem {
+    Ok(ElemChild::from(Elem {
         children: ElemChildren(children),
         display,
         meta,
-    })
-}
-
-/// Reads a word. `children` are those before it in the same element, and `around` holds the
-/// children before each element around it.
-fn read_word(
-    rt: &impl Abort,
-    alloc: Global,
-    word: &str,
-    around: &mut Vec<Vec<ElemChild>>,
-    children: &mut Vec<ElemChild>,
-) {
-    if word == "(" {
-        put(rt, around, mem::replace(children, Vec::new(alloc)));
-    } else if let Some(end) = word.strip_prefix(')') {
-        let outside = around.pop().expect(rt, "an element ends that began");
-        let inside = mem::replace(children, outside);
-        put(rt, children, read_elem(rt, alloc, inside, end));
-    } else if !word.is_empty() {
-        put(rt, children, read_leaf(rt, alloc, word));
-    }
+    }))
 }
 
 /// The tree of a description.
-pub fn read(rt: &impl Abort, alloc: Global, description: &str) -> ElemChildren {
+pub fn read(rt: &impl Abort, alloc: Global, description: &str) -> Result<ElemChildren, Fail> {
     let mut around = Vec::new(alloc);
     let mut children = Vec::new(alloc);
     for word in description.split(' ') {
-        read_word(rt, alloc, word, &mut around, &mut children);
+        if word == "(" {
+            put(
+                rt,
+                &mut around,
+                mem::replace(&mut children, Vec::new(alloc)),
+            );
+        } else if let Some(end) = word.strip_prefix(')') {
+            let outside = around.pop().expect(rt, "an element ends that began");
+            let inside = mem::replace(&mut children, outside);
+            put(rt, &mut children, read_elem(rt, alloc, inside, end)?);
+        } else if !word.is_empty() {
+            put(rt, &mut children, read_leaf(rt, alloc, word)?);
+        }
     }
-    ElemChildren(children)
-}
-
-/// Asserts that the text is the wanted text.
-pub fn assert_text(rt: &impl Abort, text: &str, wanted: &str, asked: &str) {
-    assert_eq!(rt; text, wanted, "at {asked}");
+    Ok(ElemChildren(children))
 }
 
 /// Asserts that a tree is equal to that of a description. A failure shows its plain text.
-pub fn assert_tree(rt: &impl Abort, alloc: Global, tree: ElemChildren, wanted: &str, asked: &str) {
-    let described = read(rt, alloc, wanted);
-    assert!(rt; tree == described, "{wanted} at {asked}, and not {tree}");
-    drop(described);
-    drop(tree);
+pub fn assert_tree(
+    rt: &impl Abort,
+    alloc: Global,
+    tree: &ElemChildren,
+    wanted: &str,
+    of: &str,
+) -> Result<(), Fail> {
+    let described = read(rt, alloc, wanted)?;
+    assert!(rt; *tree == described, "{wanted} of {of}, and not {tree}");
+    Ok(())
 }

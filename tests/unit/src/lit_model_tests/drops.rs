@@ -3,35 +3,34 @@
 use crate::shared::alone;
 use lit_model::{Entry, EntryType};
 use std::alloc::Global;
-use std::process::Abort;
+use std::test::Fail;
 
 /// The levels of a deep entry.
 const LEVELS: usize = 20_000;
 
-fn journal(rt: &impl Abort, alloc: Global) -> Entry {
-    Entry::new(alloc, "journal", EntryType::Periodical).expect(rt, "memory")
+fn journal(alloc: Global) -> Result<Entry, Fail> {
+    Ok(Entry::new(alloc, "journal", EntryType::Periodical)?)
 }
 
 #[test]
-fn a_chain_of_parents_drops(rt: HostRuntime) {
+fn a_chain_of_parents_drops(rt: HostRuntime) -> Result<(), Fail> {
     let alloc = rt.alloc();
     let mut entries = Vec::new(alloc);
     for _ in 0..LEVELS {
-        entries = alone(&rt, alloc, journal(&rt, alloc).with_parents(entries));
+        entries = alone(&rt, alloc, journal(alloc)?.with_parents(entries));
     }
     assert_eq!(rt; entries.len(), 1);
-    drop(entries);
+    Ok(())
 }
 
 #[test]
-fn a_chain_with_parents_beside_each_other_drops(rt: HostRuntime) {
+fn a_chain_with_parents_beside_each_other_drops(rt: HostRuntime) -> Result<(), Fail> {
     let alloc = rt.alloc();
     let mut entries = Vec::new(alloc);
     for _ in 0..LEVELS {
-        let above = journal(&rt, alloc).with_parents(entries);
-        let works = vec![in alloc; journal(&rt, alloc), above, journal(&rt, alloc)];
-        entries = works.expect(&rt, "memory");
+        let above = journal(alloc)?.with_parents(entries);
+        entries = vec![in alloc; journal(alloc)?, above, journal(alloc)?]?;
     }
     assert_eq!(rt; entries.len(), 3);
-    drop(entries);
+    Ok(())
 }
