@@ -13,7 +13,7 @@ import subprocess
 import sys
 import tempfile
 import time
-from typing import Any, Iterable
+from typing import Any, Callable, Iterable
 
 from kit import TARGET, TOP, Failure, kit, status_of, words_of_try
 
@@ -100,27 +100,37 @@ class Compiled:
             time.sleep(0.01)
 
 
-def compiled(crate: str, words: list[str], room: str) -> tuple[list[str], str | None]:
-    """What the kit compiles before it runs the program of a crate with these words, unproved: the
-    object files that it links, and the bitcode of the program. Each is there only while it works,
-    so a second name is given to it as it begins to be written. The bitcode is complete as soon as
-    its object file is there."""
+def watched(words: list[str], meanwhile: Callable[[], None], **how: Any) -> int:
+    """Runs a command to its end, and returns its status. While it is at work, `meanwhile` is called
+    again and again."""
+    command = subprocess.Popen(words, start_new_session=True, **how)
+    try:
+        while command.poll() is None:
+            meanwhile()
+            time.sleep(0.01)
+    finally:
+        if command.poll() is None:
+            os.killpg(command.pid, signal.SIGTERM)
+            command.wait()
+    return command.returncode
+
+
+def compiled(crate: str, room: str,
+             run: Callable[..., int] = watched) -> tuple[list[str], str | None]:
+    """What the kit compiles of the program of a crate, unproved: the object files that it links,
+    and the bitcode of the program, if it leaves that. Each is there only while it works, so a
+    second name is given to it as it begins to be written. The bitcode is complete as soon as its
+    object file is there. The program runs for a moment only."""
     name, checkout = os.path.basename(crate), os.path.dirname(os.path.dirname(crate))
     found = Compiled(room, name)
     with open(f"{room}/{name}.log", "w+b") as log:
-        build = subprocess.Popen(words_of_try(name, checkout, words), cwd=crate,
-                                 env={**os.environ, "TMPDIR": found.temp}, start_new_session=True,
-                                 stdin=subprocess.DEVNULL, stdout=log, stderr=log)
-        try:
-            found.keep_all(build)
-        finally:
-            if build.poll() is None:
-                os.killpg(build.pid, signal.SIGTERM)
-                build.wait()
+        run(words_of_try(name, checkout, [], is_run=False), found.keep, cwd=crate,
+            env={**os.environ, "TMPDIR": found.temp}, stdin=subprocess.DEVNULL, stdout=log,
+            stderr=log)
         log.seek(0)
         said = log.read().decode(errors="replace")
-    if build.returncode != 0:
-        raise Failure(f"{name}: the build ended with {build.returncode}: {said[-1000:]}")
+    if not found.objects:
+        raise Failure(f"{name} cannot be built: the kit left no object file\n{said[-3000:]}")
     return list(found.objects.values()), next(iter(found.bitcode.values()), None)
 
 
