@@ -13,8 +13,9 @@ import threading
 from typing import Callable
 
 from kit import TARGET, TOP, Failure, kit, words_of_try
+from sources import FUNCTION, function_around, functions_of
 from unproved import Compiled, checked, link
-from wrong_bodies import HEAD, Entry, all_entries
+from wrong_bodies import Entry, all_entries
 
 CHOICE = """
 unsafe extern "C" {
@@ -26,25 +27,8 @@ Place = tuple[str, int, int]
 
 
 def bodies_of(text: str) -> list[tuple[int, int]]:
-    """Where the bodies of functions begin and end in a file that `rt fmt` has laid out, braces
-    included. A function within another is part of that one's body."""
-    found, end = [], 0
-    for head in HEAD.finditer(text):
-        close = text.find(f"\n{head[1]}}}", head.end())
-        if head.start() < end or close < 0:
-            continue
-        # After clauses the brace has a line of its own.
-        alone = re.compile(rf"^{head[1]}\{{$", re.M).search(text, head.end(), close + 1)
-        ends = re.compile(r" \{$|;$", re.M).search(text, head.end(), close + 1)
-        if alone:
-            start = alone.start() + len(head[1])
-        elif ends and text[ends.start()] == " ":
-            start = ends.start() + 1
-        else:
-            continue
-        end = close + 1 + len(head[1]) + 1
-        found.append((start, end))
-    return found
+    """Where the bodies of functions begin and end in a file, braces included."""
+    return [(it.body, it.end) for it in functions_of(text) if it.body < it.end - 1]
 
 
 def is_in_body(text: str, old: str) -> bool:
@@ -55,7 +39,8 @@ def is_in_body(text: str, old: str) -> bool:
 
 def is_constant(text: str, start: int) -> bool:
     """Whether a body is that of a function which is computed while the program is compiled."""
-    return "const " in [it for it in HEAD.finditer(text) if it.start() < start][-1][0]
+    found = function_around(text, start)
+    return bool(found and "const " in text[found.start:text.index(found.name, found.start)])
 
 
 class Planting:
@@ -103,7 +88,7 @@ class Planting:
     def fault_of(self, edited: dict[str, str], lines: dict[tuple[str, str], str]) -> str:
         """Why an edit cannot be planted, or an empty text."""
         for (file, old), new in lines.items():
-            if not re.match(r"\s*use ", old) and not HEAD.match(old.lstrip()):
+            if not re.match(r"\s*use ", old) and not FUNCTION.match(old.lstrip()):
                 return f"it changes what is in no body: {old}"
             if self.lines.get((file, old), new) != new:
                 return f"another edit changes the same line: {old}"

@@ -15,6 +15,7 @@ from dataclasses import dataclass, field
 from typing import Iterable, Iterator
 
 from kit import TOP, Failure
+from sources import function_around
 
 # What is said of a proof file that names what an edit took away: it shows nothing of the contract.
 LOST_NAME = r"has no field|is not in scope|has no `|was not admitted"
@@ -27,9 +28,6 @@ REASONS = [FALSE, OTHER, NOT_PROVED, GAVE_UP]
 # The words of a step, a branch, a loop or a call.
 STEPS = re.compile(r"\b(?:if|else|match|return|for|while|loop|let|break|continue)\b|=>|[?;{]"
                    r"|\b[a-z_]\w*(?=\()")
-
-# The head of a function, up to its name, in a file that `rt fmt` has laid out.
-HEAD = re.compile(r"^( *)(?:pub(?:\([a-z]+\))? )?(?:[a-z]+ )*fn (\w+)", re.M)
 
 
 def reason_of(said: str, other: str) -> str:
@@ -156,19 +154,14 @@ def owner(head: str) -> str:
 
 def function_at(name: str, file: str, text: str, at: int) -> tuple[str, str]:
     """The function around a place of a crate's file, as rt prints its name, and its cycle of calls;
-    empty texts outside of functions. The file is as rt fmt lays it out."""
-    heads = [head for head in HEAD.finditer(text) if head.start() <= at]
-    last = heads[-1] if heads else None
-    if not last or -1 < text.find(f"\n{last[1]}}}", last.end()) < at:
+    empty texts outside of functions."""
+    found = function_around(text, at)
+    if not found:
         return "", ""
-    above = text[: last.start()]
-    cycle = re.search(r"#\[cycle\((\w+)\)\]\n(?: *(?:#|//).*\n)*\Z", above)
-    if last[1]:
-        path = [owner(re.findall(r"^(?:pub )?(?:impl|trait)\b.*", above, re.M)[-1])]
-    else:
-        module = file.removesuffix(".rt").split("/")[1:]
-        path = [name, *(part for part in module if part not in ("lib", "main"))]
-    return "::".join([*path, last[2]]), cycle[1] if cycle else ""
+    module = [part for part in file.removesuffix(".rt").split("/")[1:]
+              if part not in ("lib", "main")]
+    path = [owner(found.block())] if found.indent else [name, *module]
+    return "::".join([*path, found.name]), found.cycle()
 
 
 def goal_at(file: str, line: int) -> str:
