@@ -7,7 +7,7 @@ import re
 import subprocess
 from typing import Iterable, Iterator
 
-from kit import TARGET, Failure, kit
+from kit import TARGET, Failure, kit, read
 from unproved import compiled
 
 # As `rattle build` compiles a program.
@@ -43,8 +43,7 @@ def out_of_line(checkout: str) -> set[str]:
     names: set[str] = set()
     for file in glob.glob(f"{checkout}/crates/*/src/**/*.rt", recursive=True):
         crate = os.path.relpath(file, f"{checkout}/crates").partition("/")[0]
-        with open(file) as source:
-            functions = marked.findall(source.read())
+        functions = marked.findall(read(file))
         names.update(rf"{crate}::(?:\w+::)*{name}" for name in functions)
     return names
 

@@ -12,7 +12,7 @@ import subprocess
 import threading
 from typing import Callable
 
-from kit import TARGET, TOP, Failure, kit, words_of_try
+from kit import TARGET, TOP, Failure, kit, read, words_of_try
 from sources import FUNCTION, function_around, functions_of
 from unproved import Compiled, checked, link
 from wrong_bodies import Entry, all_entries
@@ -58,8 +58,7 @@ class Planting:
     def text_of(self, file: str) -> str:
         """The text of a file of the copy, as it is without an edit."""
         if file not in self.texts:
-            with open(f"{self.checkout}/{file}", encoding="utf-8") as source:
-                self.texts[file] = source.read()
+            self.texts[file] = read(f"{self.checkout}/{file}")
         return self.texts[file]
 
     def add(self, number: int, entry: Entry) -> None:
@@ -170,8 +169,7 @@ def built(crate: str, listed: str, program: str, is_test: bool,
     name, checkout = os.path.basename(crate), os.path.dirname(os.path.dirname(crate))
     room = os.path.dirname(checkout)
     entries = {it.label: it for it in all_entries()}
-    with open(listed, encoding="utf-8") as lines:
-        names = lines.read().split()
+    names = read(listed).split()
     planting_of(checkout, [entries[name] for name in names]).write()
     words = with_choice(words_of_try(name, checkout, None if is_test else []), room)
     kept = Compiled(room, name)

@@ -6,7 +6,7 @@ import os
 import re
 from typing import Iterator, NamedTuple
 
-from kit import TOP, uses_of_crates
+from kit import TOP, read, uses_of_crates
 
 ITEM = re.compile(r"(pub(?:\([a-z]+\))? )?(?:final |unsafe )*"
                   r"(fn|struct|enum|trait|type|static|const|mod|use|impl|ghost use|ghost)\b *"
@@ -198,8 +198,7 @@ def module_at(crate: str, path: tuple[str, ...]) -> Module | None:
     file = f"crates/{crate}/src/{'/'.join(path) or 'lib'}.rt"
     if not os.path.exists(f"{TOP}/{file}"):
         return None
-    with open(f"{TOP}/{file}", encoding="utf-8") as source:
-        return Module(crate, path, file, list(items_in(source.read().split("\n"), 0, 1)))
+    return Module(crate, path, file, list(items_in(read(f"{TOP}/{file}").split("\n"), 0, 1)))
 
 
 def modules_of(crate: str) -> list[Module]:

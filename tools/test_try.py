@@ -13,7 +13,7 @@ from csl_source import library
 from csl_source.document import LARGE, Refused
 from csl_source.items import items as read_items
 from csl_source.page import rules
-from kit import TOP
+from kit import TOP, read
 from programs import Program
 
 STYLES = "tools/samples"
@@ -291,16 +291,14 @@ class TrialTests:
         items = [{**BOOK, "id": "<b>", "title": "<script>", "URL": "javascript:alert(1)"},
                  {**BOOK, "URL": "https://example.org/"}]
         status, _, faults = self.of_items(items, "--html", file)
-        with open(file, encoding="utf-8") as it:
-            text = it.read()
+        text = read(file)
         self.row("a page is written", (status, faults), (0, []))
         self.row("no script on the page", "<script" in text, False)
         self.row("the links of the page", re.findall('href="(.*?)"', text), ["https://example.org/"])
         self.row("the lines of the page", text.count('<div class="entry hanging">'), 2)
         self.row("the title of the page", re.findall("<h1>(.*)</h1>", text), ["Author and year"])
         self.tried(f"{STYLES}/bracketed.csl", "--html", file)
-        with open(file, encoding="utf-8") as it:
-            self.row("numbers beside lines", it.read().count('<div class="entry columns"><div>['), 8)
+        self.row("numbers beside lines", read(file).count('<div class="entry columns"><div>['), 8)
         for it, why in ("/dev/full", "No space left on device"), (f"{self.room}/no/no", "No such file or directory"):
             told = self.faults(f"{STYLES}/bracketed.csl", "--html", it)
             self.row(f"the page {it}", (told[0], told[2]), (1, [f"{it}: {why}"]))
@@ -310,8 +308,7 @@ class TrialTests:
         file = f"{self.room}/list.html"
         path = self.file("items.json", json.dumps([HOSTILE]))
         self.tried(f"{STYLES}/bracketed.csl", path, "--html", file)
-        with open(file, encoding="utf-8") as it:
-            head, _, body = it.read().partition("<body>\n")
+        head, _, body = read(file).partition("<body>\n")
         self.row("a hostile page", body, f"{HOSTILE_BODY}</body>\n</html>\n")
         self.row("the rules of page.rt", ["overflow: clip" in rules(), rules() in head], [True, True])
 

@@ -14,7 +14,7 @@ import re
 from dataclasses import dataclass, field
 from typing import Iterable, Iterator
 
-from kit import TOP, Failure
+from kit import TOP, Failure, read
 from sources import function_around
 
 # What is said of a proof file that names what an edit took away: it shows nothing of the contract.
@@ -92,8 +92,7 @@ def entries_of(crate: str, top: str = TOP) -> list[Entry]:
     path, found = f"{top}/edits/{crate}.edits", {}
     if not os.path.exists(path):
         return []
-    with open(path, encoding="utf-8") as text:
-        parts = re.split(r"\n\n+", text.read().strip("\n"))
+    parts = re.split(r"\n\n+", read(path).strip("\n"))
     for heading, *lines in (part.split("\n") for part in parts if part):
         head = re.fullmatch(r"## (\w+)(?: \[(landing|same)\])?", heading)
         if head and head[1] not in found:
@@ -110,8 +109,7 @@ def entries_of_kit(crate: str, top: str = TOP) -> list[Entry]:
     found = []
     for path in sorted(glob.glob(f"{top}/crates/{crate}/must-fail/*.edit")):
         found.append(Entry(crate, os.path.basename(path).removesuffix(".edit"), "must-fail"))
-        with open(path, encoding="utf-8") as text:
-            found[-1].read(text.read().strip("\n").split("\n"), os.path.relpath(path, top))
+        found[-1].read(read(path).strip("\n").split("\n"), os.path.relpath(path, top))
     return found
 
 
@@ -167,8 +165,7 @@ def function_at(name: str, file: str, text: str, at: int) -> tuple[str, str]:
 def goal_at(file: str, line: int) -> str:
     """The function of the goal that a line of a cycle's proof file answers: `group::render` in `pub
     group::render-returns : ..`."""
-    with open(file, encoding="utf-8") as text:
-        above = "\n".join(text.read().split("\n")[:line])
+    above = "\n".join(read(file).split("\n")[:line])
     names = re.findall(r"^(?:abbrev )?(?:pub )?(?:decreases-)?([\w:]+)-\S* :", above, re.M)
     return names[-1] if names else ""
 
@@ -219,8 +216,7 @@ class Edit:
         for file, old, new in self.pairs:
             path = f"{self.crate}/{file}"
             if file not in made and os.path.isfile(path):
-                with open(path, encoding="utf-8") as text:
-                    made[file] = text.read()
+                made[file] = read(path)
             if made.get(file, "").count(old) != 1:
                 return []
             places.append(function_at(self.name, file, made[file], made[file].find(old)))

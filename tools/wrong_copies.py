@@ -13,6 +13,7 @@ import re
 import shutil
 from dataclasses import dataclass
 
+from kit import read
 from sources import Function, function_around, functions_of
 from wrong_bodies import Edit, function_at
 
@@ -60,8 +61,7 @@ def sources_of(edit: Edit) -> list[tuple[Source, list[tuple[str, str]]]]:
     """The functions that an edit changes, each with its pairs of old and new texts."""
     found: dict[tuple[str, str], tuple[Source, list[tuple[str, str]]]] = {}
     for file, old, new in edit.pairs:
-        with open(f"{edit.crate}/{file}", encoding="utf-8") as source:
-            text = source.read()
+        text = read(f"{edit.crate}/{file}")
         at = text.find(old)
         if around := function_around(text, at):
             function = function_at(edit.name, file, text, at)[0]
@@ -82,8 +82,7 @@ def clauses_of(crate: str, of_trait: str, method: str) -> tuple[str, str]:
     """The clauses of a method in the declaration of a trait of the crate, and the text of its file,
     or empty texts."""
     for file in glob.glob(f"{crate}/src/**/*.rt", recursive=True):
-        with open(file, encoding="utf-8") as source:
-            text = source.read()
+        text = read(file)
         for found in functions_of(text):
             is_declared = re.search(rf"\btrait {of_trait}\b", found.block())
             clauses = re.search(r"\b(?:requires|ensures)\b", text[found.start:found.body])
@@ -161,8 +160,7 @@ def own_answers(text: str, prefix: str) -> str:
 def rename(folder: str, old: str, new: str) -> None:
     """Renames the modules of goals that the proof files of a folder use."""
     for file in glob.glob(f"{folder}/*.antt"):
-        with open(file, encoding="utf-8") as proofs:
-            text = proofs.read()
+        text = read(file)
         for part in ("Goals", "Given"):
             text = text.replace(f"{old}{part}", f"{new}{part}")
         with open(file, "w", encoding="utf-8") as proofs:
@@ -180,8 +178,7 @@ def copy_proofs(proofs: str, path: str, name: str) -> None:
 def copy_proofs_of_cycle(proofs: str, path: str, cycle: str, name: str) -> None:
     """Gives a copy its function's part of the proof files of a cycle."""
     for file in glob.glob(f"{proofs}/**/+{cycle}/*.antt", recursive=True):
-        with open(file, encoding="utf-8") as answers:
-            text = answers.read()
+        text = read(file)
         function = path.replace("/", "::")
         goal = rf"(?:\w+-)?((?:\w+::)*{function})-\S*"
         found = re.search(rf"^(?:abbrev )?(?:pub )?{goal} :", text, re.M)
