@@ -1,12 +1,9 @@
 """The rows of tools/test_style about tools/try."""
 import collections
-import functools
 import json
 import os
 import re
-import resource
 import shutil
-import subprocess
 from typing import Any
 
 from csl_source import library
@@ -15,6 +12,7 @@ from csl_source.items import items as read_items
 from csl_source.page import rules
 from kit import TOP, read
 from programs import Program
+from testing import ran, ran_on_full_disk
 
 STYLES = "tools/samples"
 # An item in which nothing is wrong, and what the first sample style prints of it.
@@ -162,9 +160,8 @@ class TrialTests:
 
     def tried(self, *words: str, **how: Any) -> tuple[int, str, list[str]]:
         """The status, the output and the lines of faults of the tool."""
-        how |= {"stdin": subprocess.DEVNULL, "capture_output": True}
-        ran = subprocess.run([f"{TOP}/tools/try", *words], **how)
-        return ran.returncode, ran.stdout.decode(), ran.stderr.decode().splitlines()
+        status, text, told = ran([f"{TOP}/tools/try", *words], **how)
+        return status, text, told.splitlines()
 
     def file(self, name: str, content: str | bytes) -> str:
         """The path of a new file."""
@@ -253,11 +250,9 @@ class TrialTests:
         for words, why in WORDS:
             self.row(f"the words {words}", self.tried(*words), (2, "", [f"tools/try: {why}{example}"]))
         self.row("--help of tools/try", self.tried("--help")[::2], (0, []))
-        with open("/dev/full", "w") as full:
-            for words in ["--help"], [f"{STYLES}/footnotes.csl"]:
-                ran = subprocess.run([f"{TOP}/tools/try", *words], stdout=full, stderr=subprocess.PIPE, text=True)
-                given = ran.returncode, ran.stderr.splitlines()[-1]
-                self.row(f"a full disk: tools/try {words}", given, (1, "tools/try: No space left on device"))
+        for words in ["--help"], [f"{STYLES}/footnotes.csl"]:
+            given = ran_on_full_disk([f"{TOP}/tools/try", *words])
+            self.row(f"a full disk: tools/try {words}", given, (1, "tools/try: No space left on device"))
 
     def test_locales(self) -> None:
         """The language of the library that the style names, another one, that of a file, and those of
@@ -269,7 +264,7 @@ class TrialTests:
             self.row(f"a language: {words}", line, f"  [1] Ode, T, {wanted}, 2014.")
         why = f"da-DK: the library has {', '.join(library.languages())}: of another language give the locale's file"
         self.row("no such language", self.faults(style, path, "--locale", "da-DK"), (1, "", [why]))
-        rows = subprocess.run([f"{TOP}/tools/style", "--rows", style], capture_output=True, check=True).stdout
+        rows = ran([f"{TOP}/tools/style", "--rows", style])[1]
         given = self.faults(self.file("style.rows", rows), path)
         self.row("a style in rows", given, (0, "b\n  [1]\n  [1] Ode, T, 2nd ed., 2014.\n", []))
 
@@ -354,8 +349,7 @@ class TrialTests:
 
     def cheap(self, *words: str) -> tuple[int, str, list[str]]:
         """What `faults` gives of a call that may cost five seconds of a core."""
-        limit = functools.partial(resource.setrlimit, resource.RLIMIT_CPU, (5, 5))
-        return self.faults(*words, preexec_fn=limit)
+        return self.faults(*words, seconds=5)
 
     def test_no_kit(self) -> None:
         """Without the kit, and without a program of an earlier call, there is one line."""
@@ -365,9 +359,9 @@ class TrialTests:
             shutil.copytree(f"{TOP}/{it}", f"{top}/{it}", ignore=leave_out)
         shutil.copy2(f"{TOP}/crates.txt", top)
         words = [f"{top}/tools/try", f"{top}/{STYLES}/footnotes.csl"]
-        ran = subprocess.run(words, env={"PATH": "/usr/bin:/bin"}, capture_output=True, text=True)
-        told = ran.stderr.splitlines()[-1].split(":")[1]
-        self.row("no kit", (ran.returncode, ran.stdout, told), (127, "", " there is no command `rt` on PATH"))
+        status, text, told = ran(words, env={"PATH": "/usr/bin:/bin"})
+        why = told.splitlines()[-1].split(":")[1]
+        self.row("no kit", (status, text, why), (127, "", " there is no command `rt` on PATH"))
 
     def test_kept_at_once(self) -> None:
         """A program that another call has just kept stays, so that the call can run it."""
@@ -385,8 +379,7 @@ class TrialTests:
         self.row("many items are read", len(self.read(self.file("many.json", many))[0]), 20_000)
         path = self.file("many.json", json.dumps([{**BOOK, "id": it} for it in range(100)]))
         # (it takes three seconds of a core)
-        how = {"preexec_fn": lambda: resource.setrlimit(resource.RLIMIT_CPU, (20, 20))}
-        status, text, _ = self.tried(f"{STYLES}/author_year.csl", path, "--sort", **how)
+        status, text, _ = self.tried(f"{STYLES}/author_year.csl", path, "--sort", seconds=20)
         self.row("many items are printed", (status, text.count("\n  Ode (2014). T.")), (0, 100))
 
     def all_of_trials(self) -> None:

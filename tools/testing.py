@@ -1,4 +1,27 @@
-"""What the tests of tools share: rows, each with a given and a wanted result."""
+"""What the tests of tools share: rows, each with a given and a wanted result, and runs of tools."""
+import resource
+import subprocess
+from typing import Any, Sequence
+
+
+def ran(words: Sequence[str], seconds: int = 0, **how: Any) -> tuple[int, str, str]:
+    """The status of a command, and what it prints on both streams. With `seconds` it may cost so
+    many of a core."""
+    def limit() -> None:
+        """Limits the process before it starts."""
+        if seconds:
+            resource.setrlimit(resource.RLIMIT_CPU, (seconds, seconds))
+
+    how = {"stdin": subprocess.DEVNULL, "stdout": subprocess.PIPE, "stderr": subprocess.PIPE, **how}
+    run = subprocess.run(words, preexec_fn=limit, encoding="utf-8", **how)
+    return run.returncode, run.stdout or "", run.stderr or ""
+
+
+def ran_on_full_disk(words: Sequence[str]) -> tuple[int, str]:
+    """The status of a command whose output has no place, and the last line that it tells."""
+    with open("/dev/full", "w") as full:
+        status, _, told = ran(words, stdout=full)
+    return status, told.splitlines()[-1]
 
 
 class Results:
