@@ -7,8 +7,8 @@ import re
 import subprocess
 from typing import Iterable, Iterator
 
-from kit import TARGET, Failure, kit, read
-from unproved import compiled
+from kit import TARGET, OtherKit, kit, read
+from unproved import compiled, link
 
 # As `rattle build` compiles a program.
 COMPILED = """-march=x86-64 -mllvm -no-trap-after-noreturn -ffunction-sections -fdata-sections
@@ -23,15 +23,11 @@ COMPILED = """-march=x86-64 -mllvm -no-trap-after-noreturn -ffunction-sections -
 NOT_COUNTED = re.compile(r'@"(?:works::uses::(?:text|html)|csl_cli::program::status)(?:::<.*>)?"\(')
 
 
-class OtherKit(Failure):
-    """The kit leaves no bitcode."""
-
-
 def bitcode(crate: str, room: str) -> str:
     """The bitcode of the program of a crate that was laid out in the room."""
     found = compiled(crate, room)[1]
     if not found:
-        raise OtherKit("the build left no bitcode")
+        raise OtherKit("nothing is counted: this kit leaves no bitcode")
     return found
 
 
@@ -87,9 +83,5 @@ def built(crate: str, room: str, kept: Iterable[str] = (), given: str | None = N
     with open(f"{room}/checked.ll") as text, open(f"{room}/program.ll", "w") as plain_text:
         plain_text.writelines(unchecked(counted(text), heads))
     subprocess.run([*clang, *COMPILED, f"{room}/program.ll", "-o", f"{room}/program.o"], check=True)
-    program = f"{room}/program"
-    linked = ["--target", TARGET, "--toolchain", tools, "-o", program, f"{room}/program.o"]
-    libraries = [f"{kit()}/c/{name}" for name in ("libos_c.a", "liblibc_c.a")]
-    subprocess.run([f"{kit()}/bin/rattle-link", *linked, *libraries], check=True,
-                   stdout=subprocess.DEVNULL, stderr=subprocess.DEVNULL)
-    return program
+    link(f"{room}/program", [f"{room}/program.o"], ("libos_c.a", "liblibc_c.a"))
+    return f"{room}/program"

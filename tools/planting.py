@@ -12,9 +12,9 @@ import subprocess
 import threading
 from typing import Callable
 
-from kit import TARGET, TOP, Failure, kit, read, words_of_try
+from kit import Failure, kit, read, words_of_try
 from sources import FUNCTION, function_around, functions_of
-from unproved import Compiled, checked, link
+from unproved import Compiled, checked, compiled_c, link
 from wrong_bodies import Entry, all_entries
 
 CHOICE = """
@@ -141,10 +141,8 @@ def planting_of(checkout: str, entries: list[Entry]) -> Planting:
 
 def with_choice(words: list[str], room: str) -> list[str]:
     """The words of a build, to which the choice of a body is linked too."""
-    tool = f"{kit()}/toolchain/bin"
-    checked([f"{tool}/clang", f"--target={TARGET}", "-O2", "-fPIC", "-c",
-             f"{TOP}/tools/chosen_body.c", "-o", f"{room}/chosen_body.o"])
-    checked([f"{tool}/llvm-ar", "rcs", f"{room}/chosen_body.a", f"{room}/chosen_body.o"])
+    made = compiled_c("chosen_body", room)
+    checked([f"{kit()}/toolchain/bin/llvm-ar", "rcs", f"{room}/chosen_body.a", made])
     at = words.index("--link")
     return [*words[:at], "--link", f"{room}/chosen_body.a", *words[at:]]
 

@@ -1,6 +1,6 @@
 """Rattle sources that nothing proves stand outside of the crates, as `.rs` files in FOLDER/src,
 since `rt ci` takes each `.rt` file for a crate's. FOLDER/uses names the libraries that they use.
-This module lays them out as a crate, named after the folder, in a copy of the checkout.
+The crate is named after the folder, and stands in a copy of the checkout.
 
 Its `compiled` keeps what the kit compiles, so that tools can link it into a program of their own.
 
@@ -8,6 +8,7 @@ As a command, `python3 tools/unproved.py FOLDER..` formats the files of the fold
 stand. The tools that build them fail if they are not formatted."""
 import glob
 import os
+import re
 import signal
 import subprocess
 import sys
@@ -15,7 +16,7 @@ import tempfile
 import time
 from typing import Any, Callable, Iterable
 
-from kit import TARGET, TOP, Failure, kit, status_of, words_of_try
+from kit import TARGET, TOP, Failure, kit, read, status_of, words_of_try
 
 
 def checked(words: list[str]) -> None:
@@ -61,6 +62,23 @@ def formatted(folder: str, crate: str) -> dict[str, str]:
             if old.read() != text:
                 texts[file] = text
     return texts
+
+
+def laid_out(folder: str, room: str) -> str:
+    """The crate of a folder, whose sources have to be formatted."""
+    crate = lay_out(folder, room)
+    if changed := formatted(folder, crate):
+        names = ", ".join(map(os.path.basename, changed))
+        raise Failure(f"`python3 tools/unproved.py {folder}` formats {names}")
+    return crate
+
+
+def compiled_c(name: str, room: str) -> str:
+    """The object file of a C file of tools/."""
+    made = f"{room}/{name}.o"
+    checked([f"{kit()}/toolchain/bin/clang", f"--target={TARGET}", "-O2", "-fPIC", "-c",
+             f"{TOP}/tools/{name}.c", "-o", made])
+    return made
 
 
 def link_anew(file: str, seen: dict[int, str], second: str) -> None:
@@ -118,7 +136,7 @@ def watched(words: list[str], meanwhile: Callable[[], None], **how: Any) -> int:
 def compiled(crate: str, room: str,
              run: Callable[..., int] = watched) -> tuple[list[str], str | None]:
     """What the kit compiles of the program of a crate, unproved: the object files that it links,
-    and the bitcode of the program, if it leaves that. Each is there only while it works, so a
+    and the bitcode of the program, if it leaves these. Each is there only while it works, so a
     second name is given to it as it begins to be written. The bitcode is complete as soon as its
     object file is there. The program runs for a moment only."""
     name, checkout = os.path.basename(crate), os.path.dirname(os.path.dirname(crate))
@@ -129,16 +147,17 @@ def compiled(crate: str, room: str,
             stderr=log)
         log.seek(0)
         said = log.read().decode(errors="replace")
-    if not found.objects:
-        raise Failure(f"{name} cannot be built: the kit left no object file\n{said[-3000:]}")
+    if not found.objects and not re.search(r"^run=(?!none)", said, re.M):
+        raise Failure(f"{name} cannot be built:\n{said[-3000:]}")
     return list(found.objects.values()), next(iter(found.bitcode.values()), None)
 
 
-def link(program: str, objects: list[str]) -> None:
-    """Links object files with the kit's libraries into a program. Its run-time checks stay in
-    it."""
+def link(program: str, objects: list[str],
+         archives: Iterable[str] = ("libos_c.a", "liblibc_c.a", "asan.a")) -> None:
+    """Links object files with the kit's libraries into a program. Its run-time checks, which need
+    the last of these, stay in it."""
     at = kit()
-    libraries = [f"{at}/c/{name}" for name in ("libos_c.a", "liblibc_c.a", "asan.a")]
+    libraries = [f"{at}/c/{name}" for name in archives]
     target = ["--target", TARGET, "--toolchain", f"{at}/toolchain"]
     checked([f"{at}/bin/rattle-link", *target, "-o", program, *objects, *libraries])
 
