@@ -1,6 +1,7 @@
 """Rattle sources that nothing proves stand outside of the crates, as `.rs` files in FOLDER/src,
 since `rt ci` takes each `.rt` file for a crate's. FOLDER/uses names the libraries that they use.
-The crate is named after the folder, and stands in a copy of the checkout.
+FOLDER/shares, if it is there, names a module and sources of another such folder, which are laid out
+below that module. The crate is named after the folder, and stands in a copy of the checkout.
 
 Its `compiled` keeps what the kit compiles, so that tools can link it into a program of their own.
 
@@ -38,6 +39,15 @@ def unpack(paths: list[str], commit: str | None, to: str, renamed: Iterable[str]
     subprocess.run(["tar", "-x", "-C", to, *transforms], input=packed, check=True)
 
 
+def shared_by(folder: str) -> tuple[str, str, list[str]]:
+    """The module of a folder's sources below which those of another folder are laid out, the place
+    of these, and their names; nothing, if the folder has no file `shares`."""
+    if not os.path.exists(f"{TOP}/{folder}/shares"):
+        return "", "", []
+    module, place, *names = read(f"{TOP}/{folder}/shares").split()
+    return module, place, names
+
+
 def lay_out(folder: str, room: str, commit: str | None = None, sources: str | None = None) -> str:
     """The crate of a folder: its sources as they stand, or those of the commit `sources`, in a copy
     of the checkout, or of a commit."""
@@ -45,6 +55,14 @@ def lay_out(folder: str, room: str, commit: str | None = None, sources: str | No
     os.mkdir(to)
     unpack(["crates", "crates.txt"], commit, to)
     unpack([folder], sources, to, [f"s,^{folder}/,crates/{name}/,", r"s,\.rs$,.rt,"])
+    module, place, shared = shared_by(folder)
+    for source in shared if os.path.exists(f"{to}/crates/{name}/shares") else []:
+        unpack([f"{place}/{source}.rs"], sources, to,
+               [f"s,^{place}/,crates/{name}/src/{module}/,", r"s,\.rs$,.rt,"])
+        with open(f"{to}/crates/{name}/src/{module}/{source}.rt", "r+", encoding="utf-8") as text:
+            moved = text.read().replace("crate::", f"crate::{module}::")
+            text.seek(0)
+            text.write(moved)
     with open(f"{to}/crates/{name}/uses") as uses, open(f"{to}/crates.txt", "a") as crates:
         crates.write(f"{name}: {uses.read()}")
     return f"{to}/crates/{name}"
