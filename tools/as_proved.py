@@ -25,7 +25,7 @@ NOT_COUNTED = re.compile(r'@"(?:works::uses::(?:text|html)|csl_cli::program::sta
 
 def bitcode(crate: str, room: str) -> str:
     """The bitcode of the program of a crate that was laid out in the room."""
-    found = compiled(crate, room)[1]
+    found = compiled(crate, room).bitcode
     if not found:
         raise OtherKit("nothing is counted: this kit leaves no bitcode")
     return found

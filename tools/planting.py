@@ -8,13 +8,10 @@ An edit changes bodies alone, and perhaps heads of functions and `use` lines, wh
 for all: names that are visible to more, and imports that nothing uses, change no answer."""
 import os
 import re
-import subprocess
-import threading
-from typing import Callable
 
 from kit import Failure, kit, read, words_of_try
 from sources import FUNCTION, function_around, functions_of
-from unproved import Compiled, checked, compiled_c, link
+from unproved import Built, checked, compiled, compiled_c, link
 from wrong_bodies import Entry, all_entries
 
 CHOICE = """
@@ -159,32 +156,18 @@ def name_at(checkout: str, names: list[str], said: str) -> str:
     return ""
 
 
-def built(crate: str, listed: str, program: str, is_test: bool,
-          tell: Callable[[str], object]) -> int:
-    """Plants the edits that a file lists in a crate that was laid out, and has the kit build and
-    run it: its tests, or its program for a moment. Tells each line that is printed, and leaves the
-    program in a file. Returns the kit's status."""
+def built(crate: str, listed: str, program: str, is_test: bool) -> Built:
+    """Plants the edits that a file lists in a crate that was laid out, has the kit build and run
+    it, its tests or its program for a moment, and leaves the program in a file."""
     name, checkout = os.path.basename(crate), os.path.dirname(os.path.dirname(crate))
-    room = os.path.dirname(checkout)
+    room, names = os.path.dirname(checkout), read(listed).split()
     entries = {it.label: it for it in all_entries()}
-    names = read(listed).split()
     planting_of(checkout, [entries[name] for name in names]).write()
-    words = with_choice(words_of_try(name, checkout, None if is_test else []), room)
-    kept = Compiled(room, name)
-    said = []
-    with subprocess.Popen(words, cwd=crate, env={**os.environ, "TMPDIR": kept.temp}, text=True,
-                          stdin=subprocess.DEVNULL, stdout=subprocess.PIPE,
-                          stderr=subprocess.STDOUT) as run:
-        watch = threading.Thread(target=kept.keep_all, args=[run])
-        watch.start()
-        for line in run.stdout or ():
-            said.append(line)
-            tell(line)
-        watch.join()
-    objects = list(kept.objects.values())
-    if not objects:
-        named = name_at(checkout, names, "".join(said))
-        why = "".join([line for line in said if "error" in line][:1] or said[-1:]).strip()
-        raise Failure(f"{name} is not built with the wrong bodies: {named} {why}")
-    link(program, [objects[-1], f"{room}/chosen_body.o"])
-    return run.returncode
+    try:
+        made = compiled(crate, room,
+                        with_choice(words_of_try(name, checkout, None if is_test else []), room))
+    except Failure as why:
+        named = name_at(checkout, names, str(why))
+        raise Failure(f"with the wrong bodies, {named}: {why}") from None
+    link(program, [*made.objects[-1:], f"{room}/chosen_body.o"])
+    return made

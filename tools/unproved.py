@@ -15,7 +15,7 @@ import subprocess
 import sys
 import tempfile
 import time
-from typing import Any, Callable, Iterable
+from typing import Any, Callable, Iterable, NamedTuple
 
 from kit import TARGET, TOP, Failure, kit, read, status_of, words_of_try
 
@@ -111,29 +111,14 @@ def link_anew(file: str, seen: dict[int, str], second: str) -> None:
         pass
 
 
-class Compiled:
-    """What the kit compiles of a program: its object files, and its bitcode, by their numbers."""
+class Built(NamedTuple):
+    """What the kit makes of a program, unproved: the object files that it links and the bitcode of
+    the program, if it leaves these, the status of a run, and what it says."""
 
-    def __init__(self, room: str, name: str) -> None:
-        self.base, self.temp = f"{room}/{name}", f"{room}/{name}-tmp"
-        self.objects: dict[int, str] = {}
-        self.bitcode: dict[int, str] = {}
-        os.mkdir(self.temp)
-
-    def keep(self) -> None:
-        """Gives a second name to each file that is there, and has none yet."""
-        for file in glob.glob(f"{self.temp}/**/module*.o*", recursive=True):
-            link_anew(file, self.objects, f"{self.base}-{len(self.objects)}.o")
-            beside = f"{os.path.dirname(file)}/module.bc"
-            # The first module, of a few bytes, only shows that the compiler runs.
-            if os.path.exists(beside) and os.path.getsize(beside) > 100_000:
-                link_anew(beside, self.bitcode, f"{self.base}-{len(self.bitcode)}.bc")
-
-    def keep_all(self, build: subprocess.Popen[Any]) -> None:
-        """Does so as long as a build is at work."""
-        while build.poll() is None:
-            self.keep()
-            time.sleep(0.01)
+    objects: list[str]
+    bitcode: str | None
+    status: int
+    said: str
 
 
 def watched(words: list[str], meanwhile: Callable[[], None], **how: Any) -> int:
@@ -151,23 +136,36 @@ def watched(words: list[str], meanwhile: Callable[[], None], **how: Any) -> int:
     return command.returncode
 
 
-def compiled(crate: str, room: str,
-             run: Callable[..., int] = watched) -> tuple[list[str], str | None]:
-    """What the kit compiles of the program of a crate, unproved: the object files that it links,
-    and the bitcode of the program, if it leaves these. Each is there only while it works, so a
-    second name is given to it as it begins to be written. The bitcode is complete as soon as its
-    object file is there. The program runs for a moment only."""
+def compiled(crate: str, room: str, words: list[str] | None = None,
+             run: Callable[..., int] = watched) -> Built:
+    """What the kit makes of the program of a crate with these words, or else while the program runs
+    for a moment. Its files are there only while it works, so a second name is given to each as it
+    begins to be written. The bitcode is complete as soon as its object file is there."""
     name, checkout = os.path.basename(crate), os.path.dirname(os.path.dirname(crate))
-    found = Compiled(room, name)
+    objects: dict[int, str] = {}
+    bitcode: dict[int, str] = {}
+    temp = f"{room}/{name}-tmp"
+    os.mkdir(temp)
+
+    def keep() -> None:
+        """Gives a second name to each file that is there, and has none yet."""
+        for file in glob.glob(f"{temp}/**/module*.o*", recursive=True):
+            link_anew(file, objects, f"{room}/{name}-{len(objects)}.o")
+            beside = f"{os.path.dirname(file)}/module.bc"
+            # The first module, of a few bytes, only shows that the compiler runs.
+            if os.path.exists(beside) and os.path.getsize(beside) > 100_000:
+                link_anew(beside, bitcode, f"{room}/{name}-{len(bitcode)}.bc")
+
     with open(f"{room}/{name}.log", "w+b") as log:
-        run(words_of_try(name, checkout, [], is_run=False), found.keep, cwd=crate,
-            env={**os.environ, "TMPDIR": found.temp}, stdin=subprocess.DEVNULL, stdout=log,
-            stderr=log)
+        status = run(words or words_of_try(name, checkout, [], is_run=False), keep, cwd=crate,
+                     env={**os.environ, "TMPDIR": temp}, stdin=subprocess.DEVNULL, stdout=log,
+                     stderr=log)
         log.seek(0)
         said = log.read().decode(errors="replace")
-    if not found.objects and not re.search(r"^run=(?!none)", said, re.M):
-        raise Failure(f"{name} cannot be built:\n{said[-3000:]}")
-    return list(found.objects.values()), next(iter(found.bitcode.values()), None)
+    if not objects and not re.search(r"^run=(?!none)", said, re.M):
+        first = said.rfind("\n", 0, max(said.find("error"), 0)) + 1
+        raise Failure(f"{name} cannot be built:\n{said[first:first + 3000]}")
+    return Built(list(objects.values()), next(iter(bitcode.values()), None), status, said)
 
 
 def link(program: str, objects: list[str],
