@@ -4,12 +4,11 @@ the sources keep so. For the tools that count instructions and stack of tools/wo
 import glob
 import os
 import re
-import signal
 import subprocess
-import time
 from typing import Iterable, Iterator
 
-from kit import TARGET, Failure, kit, words_of_try
+from kit import TARGET, OtherKit, kit, read
+from unproved import compiled, link
 
 # As `rattle build` compiles a program.
 COMPILED = """-march=x86-64 -mllvm -no-trap-after-noreturn -ffunction-sections -fdata-sections
@@ -24,42 +23,12 @@ COMPILED = """-march=x86-64 -mllvm -no-trap-after-noreturn -ffunction-sections -
 NOT_COUNTED = re.compile(r'@"(?:works::uses::(?:text|html)|csl_cli::program::status)(?:::<.*>)?"\(')
 
 
-class OtherKit(Failure):
-    """The kit leaves no bitcode."""
-
-
-def module_in(folder: str) -> str | None:
-    """The bitcode of the program in the folder of a build, once it is complete."""
-    for file in glob.glob(f"{folder}/**/module*.o*", recursive=True):
-        module = f"{os.path.dirname(file)}/module.bc"
-        # The first module, of a few bytes, only shows that the compiler runs.
-        if os.path.exists(module) and os.path.getsize(module) > 100_000:
-            return module
-    return None
-
-
-def bitcode(crate: str, words: list[str], room: str) -> str:
-    """The bitcode that the kit compiles before it runs the program with these words. It is complete
-    as soon as its object file exists."""
-    temp, kept = f"{room}/try", f"{room}/checked.bc"
-    os.mkdir(temp)
-    words = words_of_try(os.path.basename(crate), f"{room}/checkout", words)
-    with open(f"{room}/said", "w+") as said:
-        tried = subprocess.Popen(words, cwd=crate, env={**os.environ, "TMPDIR": temp},
-                                 start_new_session=True, stdin=subprocess.DEVNULL, stdout=said,
-                                 stderr=said)
-        while tried.poll() is None and not os.path.exists(kept):
-            if module := module_in(temp):
-                os.link(module, kept)
-            time.sleep(0.02)
-        if tried.poll() is None:
-            os.killpg(tried.pid, signal.SIGTERM)
-        tried.wait()
-        said.seek(0)
-        if not os.path.exists(kept):
-            why = f"{said.read()[-3000:]}\nthe build left no bitcode"
-            raise Failure(why) if tried.returncode else OtherKit(why)
-        return kept
+def bitcode(crate: str, room: str) -> str:
+    """The bitcode of the program of a crate that was laid out in the room."""
+    found = compiled(crate, room).bitcode
+    if not found:
+        raise OtherKit("nothing is counted: this kit leaves no bitcode")
+    return found
 
 
 def out_of_line(checkout: str) -> set[str]:
@@ -70,8 +39,7 @@ def out_of_line(checkout: str) -> set[str]:
     names: set[str] = set()
     for file in glob.glob(f"{checkout}/crates/*/src/**/*.rt", recursive=True):
         crate = os.path.relpath(file, f"{checkout}/crates").partition("/")[0]
-        with open(file) as source:
-            functions = marked.findall(source.read())
+        functions = marked.findall(read(file))
         names.update(rf"{crate}::(?:\w+::)*{name}" for name in functions)
     return names
 
@@ -103,12 +71,11 @@ def unchecked(text: Iterable[str], kept: re.Pattern[str]) -> Iterator[str]:
         yield line
 
 
-def built(crate: str, words: list[str], room: str, kept: Iterable[str] = (),
-          given: str | None = None) -> str:
+def built(crate: str, room: str, kept: Iterable[str] = (), given: str | None = None) -> str:
     """The program of a crate that was laid out in the room. The functions `kept` stay out of line
-    too. With these words it succeeds. If its bitcode is given, it is not compiled again."""
+    too. If its bitcode is given, it is not compiled again."""
     functions = "|".join(out_of_line(f"{room}/checkout").union(kept))
-    checked, tools = given or bitcode(crate, words, room), f"{kit()}/toolchain"
+    checked, tools = given or bitcode(crate, room), f"{kit()}/toolchain"
     clang = [f"{tools}/bin/clang", f"--target={TARGET}", f"--sysroot={tools}"]
     plain = ["-x", "ir", "-S", "-emit-llvm", "-O0", "-Xclang", "-disable-llvm-passes"]
     subprocess.run([*clang, *plain, checked, "-o", f"{room}/checked.ll"], check=True)
@@ -116,9 +83,5 @@ def built(crate: str, words: list[str], room: str, kept: Iterable[str] = (),
     with open(f"{room}/checked.ll") as text, open(f"{room}/program.ll", "w") as plain_text:
         plain_text.writelines(unchecked(counted(text), heads))
     subprocess.run([*clang, *COMPILED, f"{room}/program.ll", "-o", f"{room}/program.o"], check=True)
-    program = f"{room}/program"
-    linked = ["--target", TARGET, "--toolchain", tools, "-o", program, f"{room}/program.o"]
-    libraries = [f"{kit()}/c/{name}" for name in ("libos_c.a", "liblibc_c.a")]
-    subprocess.run([f"{kit()}/bin/rattle-link", *linked, *libraries], check=True,
-                   stdout=subprocess.DEVNULL, stderr=subprocess.DEVNULL)
-    return program
+    link(f"{room}/program", [f"{room}/program.o"], ("libos_c.a", "liblibc_c.a"))
+    return f"{room}/program"

@@ -22,17 +22,15 @@ class Line(NamedTuple):
 
 
 class Command(NamedTuple):
-    """A quoted command: the line that it is on, its words, the lines quoted of its output, and the
-    line where its block of code begins."""
+    """A quoted command: the line that it is on, its words, and the lines quoted of its output."""
 
     number: int
     words: str
     output: list[str]
-    block: int
 
 
 class Quote(NamedTuple):
-    """A fenced block of code that quotes no command: the last line before it, and its own."""
+    """A fenced block of code: the last line before it, and its own."""
 
     before: str
     lines: list[Line]
@@ -75,33 +73,37 @@ class Document:
                 start = start if paragraph else line.number
                 paragraph += ITEM.sub("", line.text, count=1) + " "
 
-    def commands(self) -> list[Command]:
-        """The commands that its blocks of code quote after `$ `, each with its output."""
-        found: list[Command] = []
-        block, is_open = 0, False
-        for line in self.lines:
-            if line.kind != "code" or line.text.startswith("```"):
-                block, is_open = line.number, False
-            elif line.text.startswith("$ "):
-                found.append(Command(line.number, line.text[2:].strip(), [], block))
-                is_open = True
-            elif is_open:
-                found[-1].output.append(line.text)
-        return found
-
-    def quotes(self) -> Iterator[Quote]:
-        """The fenced blocks of code that quote no command."""
+    def blocks(self) -> Iterator[Quote]:
+        """The fenced blocks of code."""
         before = ""
         block: list[Line] | None = None
         for line in self.lines:
             if line.kind == "code" and line.text.startswith("```"):
-                if block and not any(it.text.startswith("$ ") for it in block):
+                if block is not None:
                     yield Quote(before, block)
                 block = [] if block is None else None
             elif block is not None:
                 block.append(line)
             elif line.text.strip():
                 before = line.text
+
+    def commands(self) -> list[Command]:
+        """The commands that its blocks of code quote after `$ `, each with its output."""
+        found: list[Command] = []
+        for block in self.blocks():
+            is_open = False
+            for line in block.lines:
+                if line.text.startswith("$ "):
+                    found.append(Command(line.number, line.text[2:].strip(), []))
+                    is_open = True
+                elif is_open:
+                    found[-1].output.append(line.text)
+        return found
+
+    def quotes(self) -> Iterator[Quote]:
+        """The fenced blocks of code that quote no command."""
+        yield from (block for block in self.blocks()
+                    if not any(it.text.startswith("$ ") for it in block.lines))
 
     def rows(self) -> Iterator[tuple[int, list[str], list[str]]]:
         """The rows of its tables, each with the number of its line and the cells of the head."""

@@ -6,7 +6,7 @@ import os
 import re
 from typing import Iterator
 
-from kit import TOP, uses_of_crates
+from kit import TOP, read, uses_of_crates
 
 # A file of definitions that a module cites: its crate, and its path there.
 CITE = re.compile(r"^\s*ghost use Rattle\.(\w+)\.specs\.([\w.]+?)(?=;|\.\{| as )", re.M)
@@ -24,14 +24,12 @@ MADE_UP = "tools/document_tests/modules"
 def modules() -> Iterator[tuple[str, str]]:
     """The path and the text of each module."""
     for path in sorted(glob.glob(f"{TOP}/crates/*/src/**/*.rt", recursive=True)):
-        with open(path, encoding="utf-8") as text:
-            yield os.path.relpath(path, TOP), text.read()
+        yield os.path.relpath(path, TOP), read(path)
 
 
 def made_up_modules() -> Iterator[tuple[str, str]]:
     """The path and the text of each made-up module."""
-    with open(f"{TOP}/{MADE_UP}", encoding="utf-8") as text:
-        _, *parts = re.split(r"^== (.*)\n", text.read(), flags=re.M)
+    _, *parts = re.split(r"^== (.*)\n", read(f"{TOP}/{MADE_UP}"), flags=re.M)
     yield from zip(parts[::2], parts[1::2])
 
 

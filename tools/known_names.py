@@ -4,7 +4,7 @@ import os
 import re
 
 import specs
-from kit import TOP, uses_of_crates
+from kit import TOP, read, uses_of_crates
 from sources import Item, bare, impl_of, modules_of
 from wrong_bodies import all_entries
 
@@ -58,8 +58,7 @@ class Names:
     def add_proofs(self, crate: str) -> None:
         """Adds the lemmas of a crate."""
         for file in glob.glob(f"{TOP}/crates/{crate}/proofs/**/*.antt", recursive=True):
-            with open(file, encoding="utf-8") as text:
-                found = re.findall(rf"^(?:abbrev )?pub ({specs.WORD}) ", text.read(), re.M)
+            found = re.findall(rf"^(?:abbrev )?pub ({specs.WORD}) ", read(file), re.M)
             self.every.update([os.path.basename(file)[:-5], *found])
 
     def lacks_path(self, path: str) -> bool:

@@ -5,7 +5,7 @@ import os
 import re
 from typing import Iterator
 
-from kit import TOP, kit
+from kit import TOP, kit, read
 
 SUFFIXES = ("md", "rt", "rs", "antt", "py", "rows", "csl", "json", "xml", "edit", "edits", "c")
 PATH = re.compile(r"[\w.+*{},/-]*\w[\w.+*{},/-]*")
@@ -84,27 +84,15 @@ def is_path(word: str) -> bool:
     return bool(has_ending) or ("/" in word and (first in ends_of_paths() or is_open(first)))
 
 
-@functools.cache
-def text_of_tool(tool: str) -> str:
-    """The text of a tool, or nothing if there is no such file."""
-    path = f"{TOP}/{tool}"
-    if not os.path.isfile(path):
-        return ""
-    with open(path, encoding="utf-8", errors="replace") as text:
-        return text.read()
-
-
 def faults_of_words(quoted: str) -> Iterator[str]:
     """What is wrong in a text in backquotes: a command, or any words."""
     words = [word.strip("'\",;:()[]") for word in quoted.split()]
-    for at, word in enumerate(words):
-        if at and words[at - 1] in (">", ">>", "<"):
-            continue
-        for path in variants_of(word) if is_path(word) else []:
-            if lacks(path):
-                yield f"there is no {path}"
-    is_tool = bool(words) and words[0].startswith(("tools/", "./"))
-    if is_tool and (text := text_of_tool(words[0].removeprefix("./"))):
-        for option in re.findall(r"(?<!\S)--[\w-]+", " ".join(words)):
-            if option not in text:
-                yield f"{words[0]} has no option {option}"
+    for before, word in zip(["", *words], words):
+        if before not in (">", ">>", "<") and is_path(word):
+            yield from (f"there is no {path}" for path in variants_of(word) if lacks(path))
+    tool = f"{TOP}/{words[0]}" if words and words[0].startswith(("tools/", "./")) else ""
+    if os.path.isfile(tool):
+        text = read(tool)
+        yield from (f"{words[0]} has no option {option}"
+                    for option in re.findall(r"(?<!\S)--[\w-]+", " ".join(words))
+                    if option not in text)

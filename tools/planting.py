@@ -8,13 +8,11 @@ An edit changes bodies alone, and perhaps heads of functions and `use` lines, wh
 for all: names that are visible to more, and imports that nothing uses, change no answer."""
 import os
 import re
-import subprocess
-import threading
-from typing import Callable
 
-from kit import TARGET, TOP, Failure, kit, words_of_try
-from unproved import Compiled, checked, link
-from wrong_bodies import HEAD, Entry, all_entries
+from kit import Failure, kit, read, words_of_try
+from sources import FUNCTION, function_around, functions_of
+from unproved import Built, checked, compiled, compiled_c, link
+from wrong_bodies import Entry, all_entries
 
 CHOICE = """
 unsafe extern "C" {
@@ -26,25 +24,8 @@ Place = tuple[str, int, int]
 
 
 def bodies_of(text: str) -> list[tuple[int, int]]:
-    """Where the bodies of functions begin and end in a file that `rt fmt` has laid out, braces
-    included. A function within another is part of that one's body."""
-    found, end = [], 0
-    for head in HEAD.finditer(text):
-        close = text.find(f"\n{head[1]}}}", head.end())
-        if head.start() < end or close < 0:
-            continue
-        # After clauses the brace has a line of its own.
-        alone = re.compile(rf"^{head[1]}\{{$", re.M).search(text, head.end(), close + 1)
-        ends = re.compile(r" \{$|;$", re.M).search(text, head.end(), close + 1)
-        if alone:
-            start = alone.start() + len(head[1])
-        elif ends and text[ends.start()] == " ":
-            start = ends.start() + 1
-        else:
-            continue
-        end = close + 1 + len(head[1]) + 1
-        found.append((start, end))
-    return found
+    """Where the bodies of functions begin and end in a file, braces included."""
+    return [(it.body, it.end) for it in functions_of(text) if it.body < it.end - 1]
 
 
 def is_in_body(text: str, old: str) -> bool:
@@ -55,7 +36,8 @@ def is_in_body(text: str, old: str) -> bool:
 
 def is_constant(text: str, start: int) -> bool:
     """Whether a body is that of a function which is computed while the program is compiled."""
-    return "const " in [it for it in HEAD.finditer(text) if it.start() < start][-1][0]
+    found = function_around(text, start)
+    return bool(found and "const " in text[found.start:text.index(found.name, found.start)])
 
 
 class Planting:
@@ -73,8 +55,7 @@ class Planting:
     def text_of(self, file: str) -> str:
         """The text of a file of the copy, as it is without an edit."""
         if file not in self.texts:
-            with open(f"{self.checkout}/{file}", encoding="utf-8") as source:
-                self.texts[file] = source.read()
+            self.texts[file] = read(f"{self.checkout}/{file}")
         return self.texts[file]
 
     def add(self, number: int, entry: Entry) -> None:
@@ -103,7 +84,7 @@ class Planting:
     def fault_of(self, edited: dict[str, str], lines: dict[tuple[str, str], str]) -> str:
         """Why an edit cannot be planted, or an empty text."""
         for (file, old), new in lines.items():
-            if not re.match(r"\s*use ", old) and not HEAD.match(old.lstrip()):
+            if not re.match(r"\s*use ", old) and not FUNCTION.match(old.lstrip()):
                 return f"it changes what is in no body: {old}"
             if self.lines.get((file, old), new) != new:
                 return f"another edit changes the same line: {old}"
@@ -157,10 +138,8 @@ def planting_of(checkout: str, entries: list[Entry]) -> Planting:
 
 def with_choice(words: list[str], room: str) -> list[str]:
     """The words of a build, to which the choice of a body is linked too."""
-    tool = f"{kit()}/toolchain/bin"
-    checked([f"{tool}/clang", f"--target={TARGET}", "-O2", "-fPIC", "-c",
-             f"{TOP}/tools/chosen_body.c", "-o", f"{room}/chosen_body.o"])
-    checked([f"{tool}/llvm-ar", "rcs", f"{room}/chosen_body.a", f"{room}/chosen_body.o"])
+    made = compiled_c("chosen_body", room)
+    checked([f"{kit()}/toolchain/bin/llvm-ar", "rcs", f"{room}/chosen_body.a", made])
     at = words.index("--link")
     return [*words[:at], "--link", f"{room}/chosen_body.a", *words[at:]]
 
@@ -177,33 +156,18 @@ def name_at(checkout: str, names: list[str], said: str) -> str:
     return ""
 
 
-def built(crate: str, listed: str, program: str, is_test: bool,
-          tell: Callable[[str], object]) -> int:
-    """Plants the edits that a file lists in a crate that was laid out, and has the kit build and
-    run it: its tests, or its program for a moment. Tells each line that is printed, and leaves the
-    program in a file. Returns the kit's status."""
+def built(crate: str, listed: str, program: str, is_test: bool) -> Built:
+    """Plants the edits that a file lists in a crate that was laid out, has the kit build and run
+    it, its tests or its program for a moment, and leaves the program in a file."""
     name, checkout = os.path.basename(crate), os.path.dirname(os.path.dirname(crate))
-    room = os.path.dirname(checkout)
+    room, names = os.path.dirname(checkout), read(listed).split()
     entries = {it.label: it for it in all_entries()}
-    with open(listed, encoding="utf-8") as lines:
-        names = lines.read().split()
     planting_of(checkout, [entries[name] for name in names]).write()
-    words = with_choice(words_of_try(name, checkout, None if is_test else []), room)
-    kept = Compiled(room, name)
-    said = []
-    with subprocess.Popen(words, cwd=crate, env={**os.environ, "TMPDIR": kept.temp}, text=True,
-                          stdin=subprocess.DEVNULL, stdout=subprocess.PIPE,
-                          stderr=subprocess.STDOUT) as run:
-        watch = threading.Thread(target=kept.keep_all, args=[run])
-        watch.start()
-        for line in run.stdout or ():
-            said.append(line)
-            tell(line)
-        watch.join()
-    objects = list(kept.objects.values())
-    if not objects:
-        named = name_at(checkout, names, "".join(said))
-        why = "".join([line for line in said if "error" in line][:1] or said[-1:]).strip()
-        raise Failure(f"{name} is not built with the wrong bodies: {named} {why}")
-    link(program, [objects[-1], f"{room}/chosen_body.o"])
-    return run.returncode
+    try:
+        made = compiled(crate, room,
+                        with_choice(words_of_try(name, checkout, None if is_test else []), room))
+    except Failure as why:
+        named = name_at(checkout, names, str(why))
+        raise Failure(f"with the wrong bodies, {named}: {why}") from None
+    link(program, [*made.objects[-1:], f"{room}/chosen_body.o"])
+    return made

@@ -6,11 +6,13 @@ import os
 import re
 from typing import Iterator, NamedTuple
 
-from kit import TOP, uses_of_crates
+from kit import TOP, read, uses_of_crates
 
 ITEM = re.compile(r"(pub(?:\([a-z]+\))? )?(?:final |unsafe )*"
                   r"(fn|struct|enum|trait|type|static|const|mod|use|impl|ghost use|ghost)\b *"
                   r"(\w*)")
+# The head of a function, up to its name.
+FUNCTION = re.compile(r"^( *)(?:pub(?:\([a-z]+\))? )?(?:[a-z]+ )*fn (\w+)", re.M)
 FIELD = re.compile(r"(pub(?:\([a-z]+\))? )?(\w+): (.*),", re.S)
 VARIANT = re.compile(r"([A-Z]\w*)(.*),", re.S)
 CLAUSE = re.compile(r"^\s*(ensures|requires)\*?(?: (\w+))? (?=\{)", re.M)
@@ -50,6 +52,59 @@ def head_of(text: str, start: int) -> tuple[str, int]:
             break
         place += 1
     return text[start:place], place
+
+
+class Function(NamedTuple):
+    """A function of a file: the file's text, its name and the space in front of it, and where its
+    head, its body and what is after it begin. One that is only declared has an empty body."""
+
+    file: str
+    name: str
+    indent: str
+    start: int
+    body: int
+    end: int
+
+    def above(self) -> list[str]:
+        """The lines of attributes and comments right above it."""
+        lines = self.file[:self.start].split("\n")[:-1]
+        count = next((at for at, line in enumerate(reversed(lines))
+                      if not re.match(r" *(?:#\[|//)", line)), len(lines))
+        return lines[len(lines) - count:]
+
+    def cycle(self) -> str:
+        """The cycle of calls that it is in, or an empty text."""
+        found = re.search(r"#\[cycle\((\w+)\)\]", "\n".join(self.above()))
+        return found[1] if found else ""
+
+    def block(self) -> str:
+        """The head of the block of an `impl` or a trait around it, or an empty text."""
+        heads = re.findall(r"^(?:pub )?(?:impl|trait)\b.*", self.file[:self.start], re.M)
+        return heads[-1] if self.indent else ""
+
+
+@functools.cache
+def functions_of(text: str) -> list[Function]:
+    """The functions of a file. One inside of another is a part of that one's body."""
+    blanked, found = blank(text), [Function("", "", "", 0, 0, 0)]
+    heads = list(FUNCTION.finditer(blanked))
+    for head, after in zip(heads, [*(it.start() for it in heads[1:]), len(text)]):
+        if head.start() < found[-1].end:
+            continue
+        # After clauses the brace of the body has a line of its own.
+        at = head_of(blanked, head.start(2))[1]
+        if blanked[at:at + 1] not in ("{", ";"):
+            opened = re.compile(rf"^{head[1]}\{{$", re.M).search(blanked, at, after)
+            opened = opened or re.compile(";$", re.M).search(blanked, at, after)
+            at = opened.end() - 1 if opened else after
+        end = end_of(blanked, at) if blanked[at:at + 1] == "{" else at + 1
+        found.append(Function(text, head[2], head[1], head.start(), at, end))
+    return found[1:]
+
+
+def function_around(text: str, at: int) -> Function | None:
+    """The function around a place of a file."""
+    return next((it for it in functions_of(text) if it.start <= at < it.end), None)
 
 
 class Item(NamedTuple):
@@ -143,8 +198,7 @@ def module_at(crate: str, path: tuple[str, ...]) -> Module | None:
     file = f"crates/{crate}/src/{'/'.join(path) or 'lib'}.rt"
     if not os.path.exists(f"{TOP}/{file}"):
         return None
-    with open(f"{TOP}/{file}", encoding="utf-8") as source:
-        return Module(crate, path, file, list(items_in(source.read().split("\n"), 0, 1)))
+    return Module(crate, path, file, list(items_in(read(f"{TOP}/{file}").split("\n"), 0, 1)))
 
 
 def modules_of(crate: str) -> list[Module]:

@@ -4,7 +4,7 @@ import glob
 import os
 import re
 
-from kit import TOP, uses_of_crates
+from kit import TOP, read, uses_of_crates
 
 WORD = r"[^\s(){}\[\],;]+"
 HEAD = re.compile(rf"( *)(?:(?:abbrev|unfoldable|pub) )*(record |data )?(?!→)({WORD})(?: .*)? : ")
@@ -27,8 +27,7 @@ class Module:
         self.blocks: dict[str, list[str]] = {}
         self.constructors: dict[str, str] = {}
         self.imports: dict[str, tuple[str, str]] = {}
-        with open(file, encoding="utf-8") as text:
-            lines = text.read().split("\n")
+        lines = read(file).split("\n")
         self.head = head_of(lines)
         self.read(lines)
 
@@ -111,5 +110,4 @@ def crates_of_specs() -> list[str]:
 
 def order_in(crate: str) -> list[str]:
     """The modules of a crate's definitions in the order of its `Lib`."""
-    with open(f"{TOP}/crates/{crate}/specs/Lib.antt", encoding="utf-8") as text:
-        return re.findall(r"^pub mod (\w+)", text.read(), re.M)
+    return re.findall(r"^pub mod (\w+)", read(f"{TOP}/crates/{crate}/specs/Lib.antt"), re.M)

@@ -1,20 +1,18 @@
 """The rows of tools/test_style about tools/try."""
 import collections
-import functools
 import json
 import os
 import re
-import resource
 import shutil
-import subprocess
 from typing import Any
 
 from csl_source import library
 from csl_source.document import LARGE, Refused
 from csl_source.items import items as read_items
 from csl_source.page import rules
-from kit import TOP
+from kit import TOP, read
 from programs import Program
+from testing import ran, ran_on_full_disk
 
 STYLES = "tools/samples"
 # An item in which nothing is wrong, and what the first sample style prints of it.
@@ -162,9 +160,8 @@ class TrialTests:
 
     def tried(self, *words: str, **how: Any) -> tuple[int, str, list[str]]:
         """The status, the output and the lines of faults of the tool."""
-        how |= {"stdin": subprocess.DEVNULL, "capture_output": True}
-        ran = subprocess.run([f"{TOP}/tools/try", *words], **how)
-        return ran.returncode, ran.stdout.decode(), ran.stderr.decode().splitlines()
+        status, text, told = ran([f"{TOP}/tools/try", *words], **how)
+        return status, text, told.splitlines()
 
     def file(self, name: str, content: str | bytes) -> str:
         """The path of a new file."""
@@ -253,12 +250,9 @@ class TrialTests:
         for words, why in WORDS:
             self.row(f"the words {words}", self.tried(*words), (2, "", [f"tools/try: {why}{example}"]))
         self.row("--help of tools/try", self.tried("--help")[::2], (0, []))
-        with open("/dev/full", "w") as full:
-            for words in ["--help"], [f"{STYLES}/footnotes.csl"]:
-                ran = subprocess.run([f"{TOP}/tools/try", *words], stdout=full, stderr=subprocess.PIPE, text=True)
-                given = ran.returncode, ran.stderr.splitlines()[-1]
-                wanted = 1, "tools/try: standard output refuses the answer"
-                self.row(f"a full disk: tools/try {words}", given, wanted)
+        for words in ["--help"], [f"{STYLES}/footnotes.csl"]:
+            given = ran_on_full_disk([f"{TOP}/tools/try", *words])
+            self.row(f"a full disk: tools/try {words}", given, (1, "tools/try: No space left on device"))
 
     def test_locales(self) -> None:
         """The language of the library that the style names, another one, that of a file, and those of
@@ -270,7 +264,7 @@ class TrialTests:
             self.row(f"a language: {words}", line, f"  [1] Ode, T, {wanted}, 2014.")
         why = f"da-DK: the library has {', '.join(library.languages())}: of another language give the locale's file"
         self.row("no such language", self.faults(style, path, "--locale", "da-DK"), (1, "", [why]))
-        rows = subprocess.run([f"{TOP}/tools/style", "--rows", style], capture_output=True, check=True).stdout
+        rows = ran([f"{TOP}/tools/style", "--rows", style])[1]
         given = self.faults(self.file("style.rows", rows), path)
         self.row("a style in rows", given, (0, "b\n  [1]\n  [1] Ode, T, 2nd ed., 2014.\n", []))
 
@@ -292,16 +286,14 @@ class TrialTests:
         items = [{**BOOK, "id": "<b>", "title": "<script>", "URL": "javascript:alert(1)"},
                  {**BOOK, "URL": "https://example.org/"}]
         status, _, faults = self.of_items(items, "--html", file)
-        with open(file, encoding="utf-8") as it:
-            text = it.read()
+        text = read(file)
         self.row("a page is written", (status, faults), (0, []))
         self.row("no script on the page", "<script" in text, False)
         self.row("the links of the page", re.findall('href="(.*?)"', text), ["https://example.org/"])
         self.row("the lines of the page", text.count('<div class="entry hanging">'), 2)
         self.row("the title of the page", re.findall("<h1>(.*)</h1>", text), ["Author and year"])
         self.tried(f"{STYLES}/bracketed.csl", "--html", file)
-        with open(file, encoding="utf-8") as it:
-            self.row("numbers beside lines", it.read().count('<div class="entry columns"><div>['), 8)
+        self.row("numbers beside lines", read(file).count('<div class="entry columns"><div>['), 8)
         for it, why in ("/dev/full", "No space left on device"), (f"{self.room}/no/no", "No such file or directory"):
             told = self.faults(f"{STYLES}/bracketed.csl", "--html", it)
             self.row(f"the page {it}", (told[0], told[2]), (1, [f"{it}: {why}"]))
@@ -311,8 +303,7 @@ class TrialTests:
         file = f"{self.room}/list.html"
         path = self.file("items.json", json.dumps([HOSTILE]))
         self.tried(f"{STYLES}/bracketed.csl", path, "--html", file)
-        with open(file, encoding="utf-8") as it:
-            head, _, body = it.read().partition("<body>\n")
+        head, _, body = read(file).partition("<body>\n")
         self.row("a hostile page", body, f"{HOSTILE_BODY}</body>\n</html>\n")
         self.row("the rules of page.rt", ["overflow: clip" in rules(), rules() in head], [True, True])
 
@@ -358,8 +349,7 @@ class TrialTests:
 
     def cheap(self, *words: str) -> tuple[int, str, list[str]]:
         """What `faults` gives of a call that may cost five seconds of a core."""
-        limit = functools.partial(resource.setrlimit, resource.RLIMIT_CPU, (5, 5))
-        return self.faults(*words, preexec_fn=limit)
+        return self.faults(*words, seconds=5)
 
     def test_no_kit(self) -> None:
         """Without the kit, and without a program of an earlier call, there is one line."""
@@ -369,9 +359,9 @@ class TrialTests:
             shutil.copytree(f"{TOP}/{it}", f"{top}/{it}", ignore=leave_out)
         shutil.copy2(f"{TOP}/crates.txt", top)
         words = [f"{top}/tools/try", f"{top}/{STYLES}/footnotes.csl"]
-        ran = subprocess.run(words, env={"PATH": "/usr/bin:/bin"}, capture_output=True, text=True)
-        told = ran.stderr.splitlines()[-1].split(":")[1]
-        self.row("no kit", (ran.returncode, ran.stdout, told), (127, "", " there is no command `rt` on PATH"))
+        status, text, told = ran(words, env={"PATH": "/usr/bin:/bin"})
+        why = told.splitlines()[-1].split(":")[1]
+        self.row("no kit", (status, text, why), (127, "", " there is no command `rt` on PATH"))
 
     def test_kept_at_once(self) -> None:
         """A program that another call has just kept stays, so that the call can run it."""
@@ -379,9 +369,9 @@ class TrialTests:
         reader.out = f"{self.room}/out"
         file = reader.file_of(reader.sums())
         self.file("out/unproved-0", "of older sources")
-        self.file(os.path.relpath(file, self.room), "of another call")
-        kept = reader.keep("/bin/true", reader.sums(), lambda _: os.path.exists(file))
-        self.row("kept at once", (kept, os.listdir(reader.out)), (True, [os.path.basename(file)]))
+        self.file(f"{os.path.relpath(file, self.room)}.1", "of another call")
+        kept, name = reader.keep("/bin/true", reader.sums()), os.path.basename(file)
+        self.row("kept at once", (kept, sorted(os.listdir(reader.out))), (True, [name, f"{name}.1"]))
 
     def test_many(self) -> None:
         """Many items, whose cost may not grow with the square of their number."""
@@ -389,8 +379,7 @@ class TrialTests:
         self.row("many items are read", len(self.read(self.file("many.json", many))[0]), 20_000)
         path = self.file("many.json", json.dumps([{**BOOK, "id": it} for it in range(100)]))
         # (it takes three seconds of a core)
-        how = {"preexec_fn": lambda: resource.setrlimit(resource.RLIMIT_CPU, (20, 20))}
-        status, text, _ = self.tried(f"{STYLES}/author_year.csl", path, "--sort", **how)
+        status, text, _ = self.tried(f"{STYLES}/author_year.csl", path, "--sort", seconds=20)
         self.row("many items are printed", (status, text.count("\n  Ode (2014). T.")), (0, 100))
 
     def all_of_trials(self) -> None:

@@ -14,7 +14,8 @@ import re
 from dataclasses import dataclass, field
 from typing import Iterable, Iterator
 
-from kit import TOP, Failure
+from kit import TOP, Failure, read
+from sources import function_around
 
 # What is said of a proof file that names what an edit took away: it shows nothing of the contract.
 LOST_NAME = r"has no field|is not in scope|has no `|was not admitted"
@@ -27,9 +28,6 @@ REASONS = [FALSE, OTHER, NOT_PROVED, GAVE_UP]
 # The words of a step, a branch, a loop or a call.
 STEPS = re.compile(r"\b(?:if|else|match|return|for|while|loop|let|break|continue)\b|=>|[?;{]"
                    r"|\b[a-z_]\w*(?=\()")
-
-# The head of a function, up to its name, in a file that `rt fmt` has laid out.
-HEAD = re.compile(r"^( *)(?:pub(?:\([a-z]+\))? )?(?:[a-z]+ )*fn (\w+)", re.M)
 
 
 def reason_of(said: str, other: str) -> str:
@@ -94,8 +92,7 @@ def entries_of(crate: str, top: str = TOP) -> list[Entry]:
     path, found = f"{top}/edits/{crate}.edits", {}
     if not os.path.exists(path):
         return []
-    with open(path, encoding="utf-8") as text:
-        parts = re.split(r"\n\n+", text.read().strip("\n"))
+    parts = re.split(r"\n\n+", read(path).strip("\n"))
     for heading, *lines in (part.split("\n") for part in parts if part):
         head = re.fullmatch(r"## (\w+)(?: \[(landing|same)\])?", heading)
         if head and head[1] not in found:
@@ -112,8 +109,7 @@ def entries_of_kit(crate: str, top: str = TOP) -> list[Entry]:
     found = []
     for path in sorted(glob.glob(f"{top}/crates/{crate}/must-fail/*.edit")):
         found.append(Entry(crate, os.path.basename(path).removesuffix(".edit"), "must-fail"))
-        with open(path, encoding="utf-8") as text:
-            found[-1].read(text.read().strip("\n").split("\n"), os.path.relpath(path, top))
+        found[-1].read(read(path).strip("\n").split("\n"), os.path.relpath(path, top))
     return found
 
 
@@ -156,26 +152,20 @@ def owner(head: str) -> str:
 
 def function_at(name: str, file: str, text: str, at: int) -> tuple[str, str]:
     """The function around a place of a crate's file, as rt prints its name, and its cycle of calls;
-    empty texts outside of functions. The file is as rt fmt lays it out."""
-    heads = [head for head in HEAD.finditer(text) if head.start() <= at]
-    last = heads[-1] if heads else None
-    if not last or -1 < text.find(f"\n{last[1]}}}", last.end()) < at:
+    empty texts outside of functions."""
+    found = function_around(text, at)
+    if not found:
         return "", ""
-    above = text[: last.start()]
-    cycle = re.search(r"#\[cycle\((\w+)\)\]\n(?: *(?:#|//).*\n)*\Z", above)
-    if last[1]:
-        path = [owner(re.findall(r"^(?:pub )?(?:impl|trait)\b.*", above, re.M)[-1])]
-    else:
-        module = file.removesuffix(".rt").split("/")[1:]
-        path = [name, *(part for part in module if part not in ("lib", "main"))]
-    return "::".join([*path, last[2]]), cycle[1] if cycle else ""
+    module = [part for part in file.removesuffix(".rt").split("/")[1:]
+              if part not in ("lib", "main")]
+    path = [owner(found.block())] if found.indent else [name, *module]
+    return "::".join([*path, found.name]), found.cycle()
 
 
 def goal_at(file: str, line: int) -> str:
     """The function of the goal that a line of a cycle's proof file answers: `group::render` in `pub
     group::render-returns : ..`."""
-    with open(file, encoding="utf-8") as text:
-        above = "\n".join(text.read().split("\n")[:line])
+    above = "\n".join(read(file).split("\n")[:line])
     names = re.findall(r"^(?:abbrev )?(?:pub )?(?:decreases-)?([\w:]+)-\S* :", above, re.M)
     return names[-1] if names else ""
 
@@ -226,8 +216,7 @@ class Edit:
         for file, old, new in self.pairs:
             path = f"{self.crate}/{file}"
             if file not in made and os.path.isfile(path):
-                with open(path, encoding="utf-8") as text:
-                    made[file] = text.read()
+                made[file] = read(path)
             if made.get(file, "").count(old) != 1:
                 return []
             places.append(function_at(self.name, file, made[file], made[file].find(old)))

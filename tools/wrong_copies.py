@@ -13,7 +13,9 @@ import re
 import shutil
 from dataclasses import dataclass
 
-from wrong_bodies import HEAD, Edit, function_at
+from kit import read
+from sources import Function, function_around, functions_of
+from wrong_bodies import Edit, function_at
 
 CONTROL = "as_it_is"
 
@@ -35,51 +37,36 @@ class Control:
 
 @dataclass
 class Source:
-    """A function in a file of a crate: a place in it, what `function_at` says of it, and the file's
-    text."""
+    """A function in a file of a crate, and its name as rt prints it."""
 
     file: str
-    text: str
-    at: int
+    found: Function
     function: str
-    cycle: str
 
-    def head(self) -> re.Match[str]:
-        """Where its head begins, up to its name."""
-        return [it for it in HEAD.finditer(self.text) if it.start() <= self.at][-1]
-
-    def end(self) -> int:
-        """Where it ends."""
-        close = f"\n{self.head()[1]}}}\n"
-        return self.text.index(close, self.head().end()) + len(close)
+    def text(self) -> str:
+        """The text from its head to its end."""
+        return self.found.file[self.found.start:self.found.end] + "\n"
 
     def attributes(self) -> str:
         """The lines of its attributes, without those that only a function in a cycle has."""
-        above, found = self.text[:self.head().start()].split("\n")[:-1], []
-        while above and re.match(r" *(?:#\[|//)", above[-1]):
-            found.insert(0, above.pop())
-        return "".join(f"{it}\n" for it in found if re.match(r" *#\[(?!cycle|inline)", it))
-
-    def block(self) -> str:
-        """The head of the block around it, or an empty text."""
-        heads = re.findall(r"^(?:pub )?(?:impl|trait)\b.*", self.text[:self.head().start()], re.M)
-        return heads[-1] if self.head()[1] else ""
+        return "".join(f"{it}\n" for it in self.found.above()
+                       if re.match(r" *#\[(?!cycle|inline)", it))
 
     def is_of_trait(self) -> bool:
         """Whether it is a method of a trait."""
-        return bool(re.match(r"(?:pub )?trait\b|impl.* for ", self.block()))
+        return bool(re.match(r"(?:pub )?trait\b|impl.* for ", self.found.block()))
 
 
 def sources_of(edit: Edit) -> list[tuple[Source, list[tuple[str, str]]]]:
     """The functions that an edit changes, each with its pairs of old and new texts."""
     found: dict[tuple[str, str], tuple[Source, list[tuple[str, str]]]] = {}
     for file, old, new in edit.pairs:
-        with open(f"{edit.crate}/{file}", encoding="utf-8") as source:
-            text = source.read()
+        text = read(f"{edit.crate}/{file}")
         at = text.find(old)
-        function, cycle = function_at(edit.name, file, text, at)
-        one = found.setdefault((file, function), (Source(file, text, at, function, cycle), []))
-        one[1].append((old, new))
+        if around := function_around(text, at):
+            function = function_at(edit.name, file, text, at)[0]
+            one = found.setdefault((file, function), (Source(file, around, function), []))
+            one[1].append((old, new))
     return list(found.values())
 
 
@@ -95,14 +82,12 @@ def clauses_of(crate: str, of_trait: str, method: str) -> tuple[str, str]:
     """The clauses of a method in the declaration of a trait of the crate, and the text of its file,
     or empty texts."""
     for file in glob.glob(f"{crate}/src/**/*.rt", recursive=True):
-        with open(file, encoding="utf-8") as source:
-            text = source.read()
-        head = rf"(?:pub(?:\(crate\))? )?trait {of_trait}\b"
-        declared = re.search(rf"^{head}(?:.|\n)*?^}}", text, re.M)
-        found = declared and re.search(rf"\bfn {method}\b[^;]*?((?:requires|ensures)\b[^;]*);",
-                                       declared[0])
-        if found:
-            return found[1], text
+        text = read(file)
+        for found in functions_of(text):
+            is_declared = re.search(rf"\btrait {of_trait}\b", found.block())
+            clauses = re.search(r"\b(?:requires|ensures)\b", text[found.start:found.body])
+            if found.name == method and is_declared and clauses:
+                return text[found.start + clauses.start():found.body], text
     return "", ""
 
 
@@ -136,25 +121,25 @@ def names_lacking(text: str, other: str, clauses: str) -> str:
 def method_of(source: Source, crate: str, known: str = "") -> tuple[str, str]:
     """A method of a trait as a function, its head with `this` for `self` and the clauses of the
     trait, and the lines that these need besides known ones; or empty texts, if it has no copy."""
-    block = re.fullmatch(r"impl(?:<(.*)>)? (\w+) for ([\w<>]+) \{", source.block())
+    found = source.found
+    block = re.fullmatch(r"impl(?:<(.*)>)? (\w+) for ([\w<>]+) \{", found.block())
     path = source.function.replace("::", "/")
-    if source.cycle or not block or glob.glob(f"{crate}/proofs/**/{path}/", recursive=True):
+    if found.cycle() or not block or glob.glob(f"{crate}/proofs/**/{path}/", recursive=True):
         return "", ""
-    start = source.head().start()
     head = r" *fn (\w+)(?:<(.*?)>)?\(\s*&('\w+ )?(mut )?self([^{]*) \{\n"
-    own = re.match(head, source.text[start:])
-    clauses, other = clauses_of(crate, block[2], source.head()[2])
+    own = re.match(head, source.text())
+    clauses, other = clauses_of(crate, block[2], found.name)
     if not own or not clauses:
         return "", ""
-    within = source.text[source.text.rindex(source.block(), 0, start):start]
+    within = found.file[found.file.rindex(found.block(), 0, found.start):found.start]
     parts = (own[2] or "").split(", ")
     generics = [*(it for it in parts if it.startswith("'")), *filter(None, [block[1]]),
                 *(it for it in parts if it and not it.startswith("'"))]
     given = f"<{', '.join(generics)}>" if generics else ""
     head = f"fn {own[1]}{given}(this: &{own[3] or ''}{own[4] or ''}{block[3]}{own[5]}"
-    body = source.text[start + own.end():source.end()].removesuffix("    }\n")
+    body = source.text()[own.end():].removesuffix("    }\n")
     text = f"{head}\n    {written_out(clauses, within)}\n{{\n{body}}}\n"
-    return re.sub(r"\bself\b", "this", text), names_lacking(known + source.text, other, clauses)
+    return re.sub(r"\bself\b", "this", text), names_lacking(known + found.file, other, clauses)
 
 
 def own_answers(text: str, prefix: str) -> str:
@@ -175,8 +160,7 @@ def own_answers(text: str, prefix: str) -> str:
 def rename(folder: str, old: str, new: str) -> None:
     """Renames the modules of goals that the proof files of a folder use."""
     for file in glob.glob(f"{folder}/*.antt"):
-        with open(file, encoding="utf-8") as proofs:
-            text = proofs.read()
+        text = read(file)
         for part in ("Goals", "Given"):
             text = text.replace(f"{old}{part}", f"{new}{part}")
         with open(file, "w", encoding="utf-8") as proofs:
@@ -194,8 +178,7 @@ def copy_proofs(proofs: str, path: str, name: str) -> None:
 def copy_proofs_of_cycle(proofs: str, path: str, cycle: str, name: str) -> None:
     """Gives a copy its function's part of the proof files of a cycle."""
     for file in glob.glob(f"{proofs}/**/+{cycle}/*.antt", recursive=True):
-        with open(file, encoding="utf-8") as answers:
-            text = answers.read()
+        text = read(file)
         function = path.replace("/", "::")
         goal = rf"(?:\w+-)?((?:\w+::)*{function})-\S*"
         found = re.search(rf"^(?:abbrev )?(?:pub )?{goal} :", text, re.M)
@@ -225,25 +208,26 @@ class Copies:
     def add(self, source: Source, word: str, pairs: list[tuple[str, str]]) -> str:
         """Adds a copy with these pairs of texts changed. Returns its name with its path."""
         around, _, own = source.function.rpartition("::")
-        name, end = f"{own}__{word}", source.end()
-        text = source.text[source.head().start():end]
+        found, name = source.found, f"{own}__{word}"
+        whole, start, end = found.file, found.start, found.end + 1
+        text = source.text()
         for old, new in pairs:
             text = text.replace(old, new)
         if source.is_of_trait():
-            before, after = source.text[:source.head().start()], source.text[end:]
-            edited = Source(source.file, before + text + after, source.at, source.function, "")
+            edited = function_around(whole[:start] + text + whole[end:], start)
             known = self.lines.get(source.file, "")
-            text, lines = method_of(edited, self.folder, known)
+            text, lines = method_of(Source(source.file, edited or found, source.function),
+                                    self.folder, known)
             self.lines[source.file] = known + lines
             module = source.file.removesuffix(".rt").split("/")[1:]
             around = "::".join([self.crate, *(it for it in module if it not in ("lib", "main"))])
-            end = len(source.text)
+            end = len(whole)
         text = re.sub(rf"\bfn {own}\b", f"fn {name}", text, count=1)
-        self.texts[source.file] = source.text
+        self.texts[source.file] = whole
         self.copies.setdefault(source.file, []).append((end, f"\n{source.attributes()}{text}"))
         path = source.function.removeprefix(f"{self.crate}::").replace("::", "/")
-        if source.cycle:
-            copy_proofs_of_cycle(f"{self.folder}/proofs", path, source.cycle, name)
+        if cycle := found.cycle():
+            copy_proofs_of_cycle(f"{self.folder}/proofs", path, cycle, name)
         elif not source.is_of_trait():
             copy_proofs(f"{self.folder}/proofs", path, name)
         return f"{around}::{name}"

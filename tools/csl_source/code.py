@@ -26,18 +26,6 @@ Fields = Sequence[tuple[str, Expression | None]]
 Base = TypeVar("Base", bound=Expression | None)
 
 
-def shown(text: str) -> str:
-    """A text of a file as a terminal may have it, on one line: what has no shape, such as a control
-    character, a line feed or a turn of the direction of writing, is written by its number."""
-    def is_hidden(character: str) -> bool:
-        """Whether a character has no shape."""
-        category = unicodedata.category(character)
-        return category[0] == "C" or category in ("Zl", "Zp")
-
-    hidden = set(filter(is_hidden, set(text)))
-    return "".join(f"\\u{{{ord(it):x}}}" if it in hidden else it for it in text) if hidden else text
-
-
 def quoted(text: str) -> str:
     """A literal of a text. What has no shape of its own, such as a no-break space, is written by
     its number."""

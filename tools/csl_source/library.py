@@ -5,7 +5,8 @@ import glob
 import os
 import re
 
-TOP = os.path.dirname(os.path.dirname(os.path.dirname(os.path.realpath(__file__))))
+from kit import TOP, read
+
 # Spellings beside those of CSL's locales: of Appendix IV of CSL 1.0.2, and of CSL 1.0.1.
 OTHER_SPELLINGS = {"editor-translator": "editortranslator", "sub verbo": "sub-verbo"}
 VARIABLES = ("StandardVariable", "NumberVariable", "PageVariable", "DateVariable", "NameVariable")
@@ -19,8 +20,7 @@ def sources() -> list[str]:
     texts = []
     for crate in ["csl_style", *below]:
         for path in sorted(glob.glob(f"{TOP}/crates/{crate}/src/**/*.rt", recursive=True)):
-            with open(path, encoding="utf-8") as source:
-                texts.append(source.read())
+            texts.append(read(path))
     return texts
 
 
@@ -103,8 +103,7 @@ def languages() -> dict[str, tuple[str, tuple[str, str]]]:
     it, and its options `punctuation-in-quote` and `limit-day-ordinals-to-day-1`."""
     found: dict[str, tuple[str, tuple[str, str]]] = {}
     for path in sorted(glob.glob(f"{TOP}/crates/csl_languages/src/words/*.rt")):
-        with open(path, encoding="utf-8") as source:
-            text = source.read()
+        text = read(path)
         name = re.search(r"CSL's own locale\s+(?://! )?`([\w-]+)`", text)
         quotes, days = (re.search(rf"^ +{option}: (true|false),$", text, re.M)
                         for option in ("punctuation_in_quote", "limit_day_ordinals_to_day_1"))

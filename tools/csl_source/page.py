@@ -7,7 +7,7 @@ import html
 import re
 from typing import Mapping
 
-from csl_source.library import TOP
+from kit import TOP, read
 
 # The rules of page.rt come first. A line in columns is a flex box, whose first field keeps its
 # width. An author, a title and an address that have an element are each isolated, so a letter in
@@ -42,8 +42,7 @@ DIRECTION_CONTROLS = re.compile("[\u202a-\u202e\u2066-\u2069]")
 def rules() -> str:
     """The rules of page.rt for the looks of a page."""
     for path in glob.glob(f"{TOP}/crates/*/src/page.rt"):
-        with open(path, encoding="utf-8") as source:
-            found = re.search(r"<style>\n(.*?)</style>", source.read(), re.S)
+        found = re.search(r"<style>\n(.*?)</style>", read(path), re.S)
         if found:
             return found[1]
     raise SystemExit("tools/try: no page.rt has rules for the looks of a page")

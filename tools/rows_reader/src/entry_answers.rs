@@ -2,7 +2,6 @@
 
 use crate::fault::Fault;
 use crate::form::{Form, Forms};
-use crate::names::variables::{KINDS, add_kind};
 use crate::tree_words::{add_person, add_quoted, add_value, add_word};
 use csl::entry::{
     legislation_kind, recording_kind, same_date, same_number, same_pages, same_persons, same_text,
@@ -13,6 +12,24 @@ use csl::{Alphanumerical, Entry, EntryLike, Snapshot, same_answers};
 use std::alloc::Global;
 use std::collections::BTreeSet;
 use std::fmt;
+
+/// The names of all kinds, with one space between them.
+const KINDS: &str = "article article-journal article-magazine article-newspaper bill book \
+    broadcast chapter classic collection dataset document entry entry-dictionary \
+    entry-encyclopedia event figure graphic hearing interview legal_case legislation manuscript \
+    map motion_picture musical_score pamphlet paper-conference patent performance periodical \
+    personal_communication post post-weblog regulation report review review-book software song \
+    speech standard thesis treaty webpage";
+
+/// Appends the name of a kind.
+pub fn add_kind(words: &mut String, kind: Kind) -> Result<(), Fault> {
+    for name in KINDS.split(' ') {
+        if Kind::from_name(name) == Some(kind) {
+            return add_word(words, name);
+        }
+    }
+    add_word(words, "?")
+}
 
 /// Appends a value as it displays itself.
 fn add_shown<T: fmt::Display>(words: &mut String, value: &T) -> Result<(), Fault> {

@@ -11,14 +11,15 @@ use crate::entry::entry;
 use crate::fault::Fault;
 use crate::form::{Form, Forms};
 use crate::question::Question;
+use crate::replies::{numbered, reply, reply_content};
 use crate::rows::printed;
 use crate::scene::Scene;
 use crate::style::style;
 use crate::work::Work;
 use csl::style::{Layout, OtherTerm, RenderingElement, Term, Text};
 use csl::{
-    BufWriteFormat, CitationNumber, CiteProperties, Context, DisambiguateState, ElemChildren,
-    InstanceContext, LeftState, RenderCsl, Scope, Sorting, Style, is_web_address,
+    BufWriteFormat, CiteProperties, Context, ElemChildren, InstanceContext, LeftState, RenderCsl,
+    Scope, Sorting, Style,
 };
 use std::alloc::Global;
 
@@ -45,44 +46,9 @@ pub struct Items {
     is_aligned: bool,
 }
 
-/// Prints an answer.
-fn reply(rt: &impl Print, alloc: Global, word: &str, text: &str) -> Result<(), Fault> {
-    let mut line = String::from_str(alloc, word)?;
-    for (place, part) in text.split('\n').enumerate() {
-        line.push(if place == 0 { ' ' } else { '\u{2028}' })?;
-        line.push_str(part)?;
-    }
-    printed(rt.println(line.as_str()))
-}
-
 /// Prints a fault as an answer. Out of memory is none.
 fn reply_fault(rt: &impl Print, alloc: Global, fault: Fault) -> Result<(), Fault> {
     reply(rt, alloc, "fault", fault.words(alloc)?.as_str())
-}
-
-/// Prints a content as plain text and as HTML. Only web addresses are links.
-fn reply_content(
-    rt: &impl Print,
-    alloc: Global,
-    word: &str,
-    mut content: ElemChildren,
-) -> Result<(), Fault> {
-    content.keep_links(|address: &str| is_web_address(alloc, address).unwrap_or(false));
-    let plain = content.to_text(alloc, BufWriteFormat::Plain)?;
-    reply(rt, alloc, word, plain.as_str())?;
-    let html = content.to_text(alloc, BufWriteFormat::Html)?;
-    let mut name = String::from_str(alloc, word)?;
-    name.push_str("-html")?;
-    reply(rt, alloc, name.as_str(), html.as_str())
-}
-
-/// The properties of a first cite with this number.
-fn numbered(number: u32) -> CiteProperties<'static> {
-    let mut props = CiteProperties::first(DisambiguateState::None);
-    if let Some(number) = CitationNumber::new(number) {
-        props.speculative.citation_number = number;
-    }
-    props
 }
 
 /// A work with its cite, and the bytes that its request may still write.

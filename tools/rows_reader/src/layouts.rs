@@ -1,8 +1,8 @@
 //! What a layout and the macros that it calls ask for, and how much they are, in words.
 
+use crate::entry_answers::add_kind;
 use crate::fault::Fault;
 use crate::missing::{add_first_missing, add_missing};
-use crate::names::variables::add_kind;
 use crate::question::OfLayout;
 use crate::tree_words::{add_value, add_word};
 use csl::style::{Layout, Named};

@@ -21,6 +21,7 @@ mod name_nodes;
 mod names;
 mod nodes;
 mod question;
+mod replies;
 mod rows;
 mod scene;
 mod style;

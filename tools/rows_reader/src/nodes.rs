@@ -8,8 +8,8 @@ use crate::form::{Form, Forms};
 use crate::name_nodes::names;
 use csl::literature::LongShortForm;
 use csl::style::{
-    Affixes, Date, DatePart, DateVariable, Formatting, Group, Label, LabelPluralize, Layout,
-    LayoutRenderingElement, Number, RenderingElement, TermForm, Text, TextTarget, Variable,
+    Affixes, CslMacro, Date, DatePart, DateVariable, Formatting, Group, Label, LabelPluralize,
+    Layout, LayoutRenderingElement, Number, RenderingElement, TermForm, Text, TextTarget, Variable,
     VariablelessLabel,
 };
 
@@ -201,6 +201,16 @@ pub fn nodes(forms: &Forms<'_>) -> Result<Vec<LayoutRenderingElement>, Fault> {
         }
     }
     Ok(nodes)
+}
+
+/// The macro of a name and of these nodes.
+pub fn macro_of(forms: &Forms<'_>) -> Result<CslMacro, Fault> {
+    forms.ensure_attributes(&["name"])?;
+    let name = forms.text("name")?;
+    Ok(CslMacro {
+        name: name.ok_or(Fault::Wrong("a macro without a name"))?,
+        children: nodes(forms)?,
+    })
 }
 
 /// The layout of these nodes.

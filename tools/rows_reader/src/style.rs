@@ -7,21 +7,12 @@ use crate::driver::ensure_driver;
 use crate::fault::Fault;
 use crate::form::{Form, Forms};
 use crate::name_nodes::{NAME_OPTIONS, name_options};
-use crate::nodes::{FORMATTING, date, layout, nodes};
+use crate::nodes::{FORMATTING, date, layout, macro_of};
 use csl::style::{
-    CslMacro, DemoteNonDroppingParticle, InheritableNameOptions, Layout, OrdinalSlot, OrdinalTerm,
+    DemoteNonDroppingParticle, InheritableNameOptions, Layout, OrdinalSlot, OrdinalTerm,
     StyleSettings, TermEntry, TermForm,
 };
 use csl::{Language, Locale, Style};
-
-fn macro_of(forms: &Forms<'_>) -> Result<CslMacro, Fault> {
-    forms.ensure_attributes(&["name"])?;
-    let name = forms.text("name")?;
-    Ok(CslMacro {
-        name: name.ok_or(Fault::Wrong("a macro without a name"))?,
-        children: nodes(forms)?,
-    })
-}
 
 /// The parts of a term: its name, and its texts in the singular and in the plural.
 type TermParts<'t> = (&'t str, &'t str, Option<&'t str>);

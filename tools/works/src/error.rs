@@ -1,5 +1,6 @@
 //! The reasons why a work fails.
 
+use crate::reader::fault::Fault;
 use csl::literature::NumericError;
 use csl::{Error, HtmlError, Memory, RenderError, StyleError};
 use std::alloc::{AllocError, AllocFailed};
@@ -44,6 +45,16 @@ impl From<NumericError> for WorkError {
         match error {
             NumericError::Memory => WorkError::Memory,
             NumericError::NotNumeric => WorkError::Unexpected("not numeric"),
+        }
+    }
+}
+
+/// A style in the notation of rows is right, so it is refused only if memory runs out.
+impl From<Fault> for WorkError {
+    fn from(fault: Fault) -> WorkError {
+        match fault {
+            Fault::Memory => WorkError::Memory,
+            _ => WorkError::Unexpected("the nodes are not readable"),
         }
     }
 }

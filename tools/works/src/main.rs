@@ -19,6 +19,7 @@ mod bench;
 mod deep;
 mod error;
 mod nodes;
+mod reader;
 mod refuse;
 mod trees;
 mod uses;

@@ -1,8 +1,6 @@
 //! The names of kinds, variables, locators and terms, which the library reads.
 
-use crate::fault::Fault;
 use crate::names::Named;
-use crate::tree_words::add_word;
 use csl::style::{
     DateVariable, Kind, Locator, NameVariable, NumberOrPageVariable, NumberVariable, OtherTerm,
     PageVariable, StandardVariable, Term, Variable,
@@ -39,22 +37,4 @@ impl Named for Term {
             None => Term::from_name(name),
         }
     }
-}
-
-/// The names of all kinds, with one space between them.
-pub const KINDS: &str = "article article-journal article-magazine article-newspaper bill book \
-    broadcast chapter classic collection dataset document entry entry-dictionary \
-    entry-encyclopedia event figure graphic hearing interview legal_case legislation manuscript \
-    map motion_picture musical_score pamphlet paper-conference patent performance periodical \
-    personal_communication post post-weblog regulation report review review-book software song \
-    speech standard thesis treaty webpage";
-
-/// Appends the name of a kind.
-pub fn add_kind(words: &mut String, kind: Kind) -> Result<(), Fault> {
-    for name in KINDS.split(' ') {
-        if Kind::from_name(name) == Some(kind) {
-            return add_word(words, name);
-        }
-    }
-    add_word(words, "?")
 }

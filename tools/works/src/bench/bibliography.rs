@@ -2,173 +2,53 @@
 //! fifteen deep with the macros expanded, choices and substitutes.
 
 use crate::bench::render::{simplified_size, text_size};
-use crate::bench::rows::{CONTAINER, DOI, Holder, Part, Row, TITLE, URL, style_of};
+use crate::bench::rows::style_of;
 use crate::error::WorkError;
-use csl::style::{
-    DateVariable, Kind, NameAsSortOrder, NameVariable, NumberOrPageVariable, NumberVariable,
-    PageVariable, StandardVariable, Style, Variable,
-};
+use csl::style::Style;
 use csl_samples::BuiltIn;
 use std::alloc::Global;
 
-const FAMILY_FIRST: Option<NameAsSortOrder> = Some(NameAsSortOrder::First);
-
-static MACROS: [Row; 21] = [
-    Row {
-        name: "entry",
-        holder: Holder::Group(". "),
-        parts: &[
-            Part::Macro("authors-and-year"),
-            Part::Macro("work"),
-            Part::Macro("access"),
-        ],
-        otherwise: &[],
-    },
-    Row {
-        name: "authors-and-year",
-        holder: Holder::Group(" "),
-        parts: &[Part::Macro("authors"), Part::Macro("year")],
-        otherwise: &[],
-    },
-    Row {
-        name: "authors",
-        holder: Holder::Names(NameVariable::Composer, FAMILY_FIRST),
-        parts: &[Part::Macro("writers")],
-        otherwise: &[],
-    },
-    Row {
-        name: "writers",
-        holder: Holder::Names(NameVariable::Author, FAMILY_FIRST),
-        parts: &[Part::Macro("editors")],
-        otherwise: &[],
-    },
-    Row {
-        name: "editors",
-        holder: Holder::Names(NameVariable::Editor, FAMILY_FIRST),
-        parts: &[Part::Macro("translators")],
-        otherwise: &[],
-    },
-    Row {
-        name: "translators",
-        holder: Holder::Names(NameVariable::Translator, FAMILY_FIRST),
-        parts: &[Part::Macro("title")],
-        otherwise: &[],
-    },
-    Row {
-        name: "title",
-        holder: Holder::Given(TITLE),
-        parts: &[Part::Text(TITLE)],
-        otherwise: &[Part::Value("Untitled")],
-    },
-    Row {
-        name: "year",
-        holder: Holder::Given(Variable::Date(DateVariable::Issued)),
-        parts: &[Part::Year(DateVariable::Issued)],
-        otherwise: &[Part::Value("n.d.")],
-    },
-    Row {
-        name: "work",
-        holder: Holder::Group(". "),
-        parts: &[
-            Part::Macro("title-of-work"),
-            Part::Macro("original"),
-            Part::Macro("source"),
-        ],
-        otherwise: &[],
-    },
-    Row {
-        name: "title-of-work",
-        holder: Holder::Kind(Kind::Book),
-        parts: &[Part::Text(TITLE)],
-        otherwise: &[Part::Quoted(TITLE)],
-    },
-    Row {
-        name: "original",
-        holder: Holder::Group(" "),
-        parts: &[
-            Part::Value("First published"),
-            Part::Year(DateVariable::OriginalDate),
-        ],
-        otherwise: &[],
-    },
-    Row {
-        name: "source",
-        holder: Holder::Kind(Kind::ArticleJournal),
-        parts: &[Part::Macro("journal")],
-        otherwise: &[Part::Macro("book")],
-    },
-    Row {
-        name: "journal",
-        holder: Holder::Group(", "),
-        parts: &[
-            Part::Macro("container"),
-            Part::Macro("numbering"),
-            Part::Macro("pages"),
-        ],
-        otherwise: &[],
-    },
-    Row {
-        name: "container",
-        holder: Holder::Given(CONTAINER),
-        parts: &[Part::Text(CONTAINER)],
-        otherwise: &[Part::Macro("title")],
-    },
-    Row {
-        name: "numbering",
-        holder: Holder::Group(", "),
-        parts: &[Part::Macro("volume"), Part::Macro("issue")],
-        otherwise: &[],
-    },
-    Row {
-        name: "volume",
-        holder: Holder::Group(" "),
-        parts: &[
-            Part::Label(NumberOrPageVariable::Number(NumberVariable::Volume)),
-            Part::Number(NumberVariable::Volume),
-        ],
-        otherwise: &[],
-    },
-    Row {
-        name: "issue",
-        holder: Holder::Given(Variable::Number(NumberVariable::Issue)),
-        parts: &[Part::Number(NumberVariable::Issue)],
-        otherwise: &[Part::Number(NumberVariable::Number)],
-    },
-    Row {
-        name: "pages",
-        holder: Holder::Group(" "),
-        parts: &[
-            Part::Label(NumberOrPageVariable::Page(PageVariable::Page)),
-            Part::Text(Variable::Page(PageVariable::Page)),
-        ],
-        otherwise: &[],
-    },
-    Row {
-        name: "book",
-        holder: Holder::Group(", "),
-        parts: &[Part::Macro("editors"), Part::Macro("publisher")],
-        otherwise: &[],
-    },
-    Row {
-        name: "publisher",
-        holder: Holder::Group(": "),
-        parts: &[
-            Part::Text(Variable::Standard(StandardVariable::PublisherPlace)),
-            Part::Text(Variable::Standard(StandardVariable::Publisher)),
-        ],
-        otherwise: &[],
-    },
-    Row {
-        name: "access",
-        holder: Holder::Given(DOI),
-        parts: &[Part::Text(DOI)],
-        otherwise: &[Part::Text(URL)],
-    },
-];
+const MACROS: &str = "\
+    (macro name=entry \
+        (group delimiter='. ' (text macro=authors-and-year) (text macro=work) \
+            (text macro=access))) \
+    (macro name=authors-and-year (group delimiter=' ' (text macro=authors) (text macro=year))) \
+    (macro name=authors \
+        (names composer (name and=text name-as-sort-order=first) (substitute \
+            (text macro=writers)))) \
+    (macro name=writers \
+        (names author (name and=text name-as-sort-order=first) (substitute (text macro=editors)))) \
+    (macro name=editors \
+        (names editor (name and=text name-as-sort-order=first) (substitute \
+            (text macro=translators)))) \
+    (macro name=translators \
+        (names translator (name and=text name-as-sort-order=first) (substitute \
+            (text macro=title)))) \
+    (macro name=title (choose (if variable=title title) (else 'Untitled'))) \
+    (macro name=year (choose (if variable=issued (date issued year)) (else 'n.d.'))) \
+    (macro name=work \
+        (group delimiter='. ' (text macro=title-of-work) (text macro=original) \
+            (text macro=source))) \
+    (macro name=title-of-work \
+        (choose (if type=book title) (else (text variable=title quotes=true)))) \
+    (macro name=original (group delimiter=' ' 'First published' (date original-date year))) \
+    (macro name=source \
+        (choose (if type=article-journal (text macro=journal)) (else (text macro=book)))) \
+    (macro name=journal \
+        (group delimiter=', ' (text macro=container) (text macro=numbering) (text macro=pages))) \
+    (macro name=container \
+        (choose (if variable=container-title container-title) (else (text macro=title)))) \
+    (macro name=numbering (group delimiter=', ' (text macro=volume) (text macro=issue))) \
+    (macro name=volume (group delimiter=' ' (label volume form=short) (number volume))) \
+    (macro name=issue (choose (if variable=issue (number issue)) (else (number number)))) \
+    (macro name=pages (group delimiter=' ' (label page form=short) page)) \
+    (macro name=book (group delimiter=', ' (text macro=editors) (text macro=publisher))) \
+    (macro name=publisher (group delimiter=': ' publisher-place publisher)) \
+    (macro name=access (choose (if variable=DOI DOI) (else URL)))";
 
 /// The style of these macros.
 pub fn style(alloc: Global) -> Result<Style, WorkError> {
-    style_of(alloc, &MACROS, "entry")
+    style_of(alloc, MACROS, "entry")
 }
 
 /// Cites an article of a journal `size` times in the style, in English, and counts the bytes of the

@@ -2,198 +2,49 @@
 //! persons in substitutes and choices by kind.
 
 use crate::bench::render::text_size;
-use crate::bench::rows::{CONTAINER, DOI, Holder, Part, Row, TITLE, URL, style_of};
+use crate::bench::rows::style_of;
 use crate::error::WorkError;
-use csl::style::{
-    DateVariable, Kind, NameVariable, NumberVariable, PageVariable, StandardVariable, Variable,
-};
 use csl_samples::BuiltIn;
 use std::alloc::Global;
 
-const ISSUE: Variable = Variable::Number(NumberVariable::Issue);
-
-const PAGE: Variable = Variable::Page(PageVariable::Page);
-
-static MACROS: [Row; 25] = [
-    Row {
-        name: "note",
-        holder: Holder::Group(", "),
-        parts: &[
-            Part::Macro("contributors"),
-            Part::Macro("title"),
-            Part::Macro("secondary"),
-            Part::Macro("source"),
-            Part::Macro("access"),
-        ],
-        otherwise: &[],
-    },
-    Row {
-        name: "contributors",
-        holder: Holder::Names(NameVariable::Author, None),
-        parts: &[Part::Macro("editors")],
-        otherwise: &[],
-    },
-    Row {
-        name: "editors",
-        holder: Holder::Names(NameVariable::Editor, None),
-        parts: &[Part::Macro("translators")],
-        otherwise: &[],
-    },
-    Row {
-        name: "translators",
-        holder: Holder::Names(NameVariable::Translator, None),
-        parts: &[Part::Macro("no-person")],
-        otherwise: &[],
-    },
-    Row {
-        name: "no-person",
-        holder: Holder::Given(TITLE),
-        parts: &[Part::Macro("title")],
-        otherwise: &[Part::Value("Anonymous")],
-    },
-    Row {
-        name: "title",
-        holder: Holder::Kind(Kind::Book),
-        parts: &[Part::Text(TITLE)],
-        otherwise: &[Part::Quoted(TITLE)],
-    },
-    Row {
-        name: "secondary",
-        holder: Holder::Group(", "),
-        parts: &[Part::Macro("edited"), Part::Macro("translated")],
-        otherwise: &[],
-    },
-    Row {
-        name: "edited",
-        holder: Holder::Group(" "),
-        parts: &[Part::Value("ed."), Part::Macro("editor")],
-        otherwise: &[],
-    },
-    Row {
-        name: "editor",
-        holder: Holder::Names(NameVariable::Editor, None),
-        parts: &[],
-        otherwise: &[],
-    },
-    Row {
-        name: "translated",
-        holder: Holder::Group(" "),
-        parts: &[Part::Value("trans."), Part::Macro("translator")],
-        otherwise: &[],
-    },
-    Row {
-        name: "translator",
-        holder: Holder::Names(NameVariable::Translator, None),
-        parts: &[],
-        otherwise: &[],
-    },
-    Row {
-        name: "source",
-        holder: Holder::Kind(Kind::ArticleJournal),
-        parts: &[Part::Macro("article")],
-        otherwise: &[Part::Macro("book")],
-    },
-    Row {
-        name: "article",
-        holder: Holder::Group(": "),
-        parts: &[Part::Macro("periodical"), Part::Macro("pages")],
-        otherwise: &[],
-    },
-    Row {
-        name: "periodical",
-        holder: Holder::Group(" "),
-        parts: &[
-            Part::Macro("container"),
-            Part::Macro("volume"),
-            Part::Macro("date"),
-        ],
-        otherwise: &[],
-    },
-    Row {
-        name: "container",
-        holder: Holder::Given(CONTAINER),
-        parts: &[Part::Text(CONTAINER)],
-        otherwise: &[Part::Macro("title")],
-    },
-    Row {
-        name: "volume",
-        holder: Holder::Group(", no. "),
-        parts: &[Part::Number(NumberVariable::Volume), Part::Macro("issue")],
-        otherwise: &[],
-    },
-    Row {
-        name: "issue",
-        holder: Holder::Given(ISSUE),
-        parts: &[Part::Text(ISSUE)],
-        otherwise: &[Part::Number(NumberVariable::Number)],
-    },
-    Row {
-        name: "date",
-        holder: Holder::Given(Variable::Date(DateVariable::Issued)),
-        parts: &[Part::Year(DateVariable::Issued)],
-        otherwise: &[Part::Value("n.d.")],
-    },
-    Row {
-        name: "pages",
-        holder: Holder::Given(PAGE),
-        parts: &[Part::Text(PAGE)],
-        otherwise: &[Part::Number(NumberVariable::NumberOfPages)],
-    },
-    Row {
-        name: "book",
-        holder: Holder::Group(", "),
-        parts: &[
-            Part::Macro("inside"),
-            Part::Macro("publication"),
-            Part::Macro("pages"),
-        ],
-        otherwise: &[],
-    },
-    Row {
-        name: "inside",
-        holder: Holder::Group(" "),
-        parts: &[Part::Value("in"), Part::Text(CONTAINER)],
-        otherwise: &[],
-    },
-    Row {
-        name: "publication",
-        holder: Holder::Group(": "),
-        parts: &[
-            Part::Text(Variable::Standard(StandardVariable::PublisherPlace)),
-            Part::Macro("publisher"),
-        ],
-        otherwise: &[],
-    },
-    Row {
-        name: "publisher",
-        holder: Holder::Group(", "),
-        parts: &[
-            Part::Text(Variable::Standard(StandardVariable::Publisher)),
-            Part::Macro("date"),
-        ],
-        otherwise: &[],
-    },
-    Row {
-        name: "access",
-        holder: Holder::Given(DOI),
-        parts: &[Part::Text(DOI)],
-        otherwise: &[Part::Macro("archive")],
-    },
-    Row {
-        name: "archive",
-        holder: Holder::Group(", "),
-        parts: &[
-            Part::Text(Variable::Standard(StandardVariable::Archive)),
-            Part::Text(URL),
-        ],
-        otherwise: &[],
-    },
-];
+const MACROS: &str = "\
+    (macro name=note \
+        (group delimiter=', ' (text macro=contributors) (text macro=title) \
+            (text macro=secondary) (text macro=source) (text macro=access))) \
+    (macro name=contributors (names author (name and=text) (substitute (text macro=editors)))) \
+    (macro name=editors (names editor (name and=text) (substitute (text macro=translators)))) \
+    (macro name=translators \
+        (names translator (name and=text) (substitute (text macro=no-person)))) \
+    (macro name=no-person (choose (if variable=title (text macro=title)) (else 'Anonymous'))) \
+    (macro name=title (choose (if type=book title) (else (text variable=title quotes=true)))) \
+    (macro name=secondary (group delimiter=', ' (text macro=edited) (text macro=translated))) \
+    (macro name=edited (group delimiter=' ' 'ed.' (text macro=editor))) \
+    (macro name=editor (names editor (name and=text) (substitute))) \
+    (macro name=translated (group delimiter=' ' 'trans.' (text macro=translator))) \
+    (macro name=translator (names translator (name and=text) (substitute))) \
+    (macro name=source \
+        (choose (if type=article-journal (text macro=article)) (else (text macro=book)))) \
+    (macro name=article (group delimiter=': ' (text macro=periodical) (text macro=pages))) \
+    (macro name=periodical \
+        (group delimiter=' ' (text macro=container) (text macro=volume) (text macro=date))) \
+    (macro name=container \
+        (choose (if variable=container-title container-title) (else (text macro=title)))) \
+    (macro name=volume (group delimiter=', no. ' (number volume) (text macro=issue))) \
+    (macro name=issue (choose (if variable=issue issue) (else (number number)))) \
+    (macro name=date (choose (if variable=issued (date issued year)) (else 'n.d.'))) \
+    (macro name=pages (choose (if variable=page page) (else (number number-of-pages)))) \
+    (macro name=book \
+        (group delimiter=', ' (text macro=inside) (text macro=publication) (text macro=pages))) \
+    (macro name=inside (group delimiter=' ' 'in' container-title)) \
+    (macro name=publication (group delimiter=': ' publisher-place (text macro=publisher))) \
+    (macro name=publisher (group delimiter=', ' publisher (text macro=date))) \
+    (macro name=access (choose (if variable=DOI DOI) (else (text macro=archive)))) \
+    (macro name=archive (group delimiter=', ' archive URL))";
 
 /// Cites an article of a journal `size` times by a full note, in English, and counts the bytes of
 /// the plain texts.
 pub fn full_note(alloc: Global, size: usize) -> Result<usize, WorkError> {
-    let style = style_of(alloc, &MACROS, "note")?;
+    let style = style_of(alloc, MACROS, "note")?;
     let article = BuiltIn::QuantizedVortex.entry(alloc)?;
     let mut bytes = 0;
     for _ in 0..size {
