@@ -1,14 +1,15 @@
 //! The characters of a content in a row, each with the text that it stands in.
 
-ghost use Rattle.std.specs.Prelude.{◌≡◌, ◌++◌, OnOk};
-ghost use Rattle.csl_finish.specs.Letters.{placed, words, words_of};
+ghost use Rattle.std.specs.Prelude.{◌≡◌, ◌++◌, IfOk, OnOk};
+ghost use Rattle.csl_tree.specs.Tokens.{child_tokens, optional_meta, tokens};
+ghost use Rattle.csl_finish.specs.Letters.{bares, placed, words, words_of};
 
-use csl_tree::{Elem, ElemChild, ElemChildren};
+use csl_tree::{Elem, ElemChild, ElemChildren, ElemMeta};
 use lit_model::Memory;
 use std::alloc::Global;
 use std::vec;
 
-/// What a character is to the quotes around it.
+/// What a step has found a character to be.
 #[derive(Clone, Copy, PartialEq, Eq)]
 pub(crate) enum Role {
     /// Nothing.
@@ -17,6 +18,8 @@ pub(crate) enum Role {
     Closing,
     /// A comma or period that has moved into a quote.
     Moved,
+    /// A letter that keeps its case.
+    Fixed,
 }
 
 /// A character of a content.
@@ -74,6 +77,15 @@ pub(crate) fn read_letters(
     Ok(())
 }
 
+/// The characters of letters as one text.
+pub(crate) fn text_of(alloc: Global, letters: &[Letter]) -> Result<String, Memory> {
+    let mut text = String::new(alloc);
+    for letter in letters {
+        text.push(letter.value)?;
+    }
+    Ok(text)
+}
+
 /// Appends a character to its text.
 fn write_letter(letter: Letter, texts: &mut [String]) -> Result<(), Memory> {
     let Some(index) = letter.text else {
@@ -93,13 +105,28 @@ pub(crate) fn write_letters(letters: &[Letter], texts: &mut [String]) -> Result<
     Ok(())
 }
 
+/// A copy of the meta, if there is one.
+pub(crate) fn copied_meta(
+    alloc: Global,
+    meta: &Option<ElemMeta>,
+) -> Result<Option<ElemMeta>, Memory>
+    ensures { IfOk result (λ copy. optional_meta copy ≡ optional_meta meta.now) }
+{
+    match meta {
+        None => Ok(None),
+        Some(meta) => Ok(Some(meta.clone(alloc)?)),
+    }
+}
+
 /// A copy of the content in which each text is the next of `texts`.
 #[cycle(texts)]
 pub(crate) fn with_texts(
     alloc: Global,
     content: &ElemChildren,
     texts: &mut vec::IntoIter<String>,
-) -> Result<ElemChildren, Memory> {
+) -> Result<ElemChildren, Memory>
+    ensures { IfOk result (λ copy. bares (tokens copy) ≡ bares (tokens content.now)) }
+{
     let mut copies = Vec::with_capacity(alloc, content.0.len())?;
     for child in &content.0 {
         copies.push(child_with_texts(alloc, child, texts)?)?;
@@ -113,7 +140,9 @@ fn child_with_texts(
     alloc: Global,
     child: &ElemChild,
     texts: &mut vec::IntoIter<String>,
-) -> Result<ElemChild, Memory> {
+) -> Result<ElemChild, Memory>
+    ensures { IfOk result (λ copy. bares (child_tokens copy) ≡ bares (child_tokens child.now)) }
+{
     match child {
         ElemChild::Text(text) => match texts.next() {
             Some(new) => Ok(ElemChild::Text(text.formatting.add_text(new))),
@@ -121,10 +150,7 @@ fn child_with_texts(
         },
         ElemChild::Elem(elem) => {
             let children = with_texts(alloc, &elem.children, texts)?;
-            let meta = match &elem.meta {
-                Some(meta) => Some(meta.clone(alloc)?),
-                None => None,
-            };
+            let meta = copied_meta(alloc, &elem.meta)?;
             Ok(ElemChild::Elem(Elem {
                 children,
                 display: elem.display,
