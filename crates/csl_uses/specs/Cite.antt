@@ -21,7 +21,13 @@ cite_of_page page = record (first_cite no_disambiguation) { locator = Some (reco
 abbrev pub part_of_cite : StyleParts → SpecialForm → Answers → List ℕ
 part_of_cite style form answers = plain_text (special_cite style (first_cite no_disambiguation) form answers).content
 
+-- the forms of its halves
+abbrev pub by_authors : SpecialForm
+by_authors = VarOnly (Name Author)
+
+abbrev pub without_authors : SpecialForm
+without_authors = SuppressAuthor
+
 -- the cite in the running text
 abbrev pub in_text : StyleParts → Answers → List ℕ
-in_text style answers =
-    part_of_cite style (VarOnly (Name Author)) answers ++ codes " (" ++ part_of_cite style SuppressAuthor answers ++ codes ")"
+in_text style answers = part_of_cite style by_authors answers ++ codes " (" ++ part_of_cite style without_authors answers ++ codes ")"

@@ -6,8 +6,11 @@
 //! - `cite`: a style that is built as a value, its cites and its bibliography;
 //! - `missing`: the first word that a style lacks for its cites;
 //! - `in_text`: cites in the running text, in the order of their sort keys;
+//! - `halves`: the halves of such a cite, each with what it tells;
 //! - `namesakes`: cites that are disambiguated by more of their names;
 //! - `list`: a reference list that renders again only the lines that change;
+//! - `by_snapshot`: cites and sort keys from snapshots in place of works;
+//! - `by_date`: works in the order of their dates;
 //! - `whole_list`: a whole list, from sort keys to HTML;
 //! - `fold`: sort keys in which case and accents do not count;
 //! - `finish`: doubled periods merged, and punctuation in quotes;
@@ -19,10 +22,13 @@
 #![tactic(auto)]
 
 pub mod book;
+pub mod by_date;
+pub mod by_snapshot;
 pub mod cite;
 pub mod film;
 pub mod finish;
 pub mod fold;
+pub mod halves;
 pub mod in_text;
 pub mod links;
 pub mod list;

@@ -7,11 +7,14 @@ mod unfinished;
 use crate::error::WorkError;
 use csl::literature::Entry;
 use csl::style::{Layout, Style};
-use csl::{BufWriteFormat, EntryLike, Error, Snapshot};
+use csl::{BufWriteFormat, EntryLike, Error, Snapshot, named_by};
 use csl_uses::book::{book_label, the_c_book};
+use csl_uses::by_date::{issue_key, order_by_issue};
+use csl_uses::by_snapshot::{cite_by_snapshot, key_by_snapshot};
 use csl_uses::cite::{bibliography_line, cite, house_style, page_cite, the_compilers_book};
 use csl_uses::film::{Film, metropolis, title_of};
 use csl_uses::fold::fold;
+use csl_uses::halves::{authors_half, is_other_half_silent, other_half};
 use csl_uses::in_text::{bare_style, cite_in_text, sorted_cites};
 use csl_uses::links::{with_links_to, with_web_links};
 use csl_uses::list::{annotate_first, count_new, lines, rename_first};
@@ -91,6 +94,27 @@ fn show_in_text(out: &mut String, alloc: Global) -> Result<(), WorkError> {
         "one in the text: {}",
         cite_in_text(alloc, &style, &book)?
     )?;
+    Ok(())
+}
+
+/// Writes both halves of the cite of the book, its cite and its key by the date of issue from a
+/// snapshot, and how it and the compilers' book are ordered by that date.
+fn show_clauses(out: &mut String, alloc: Global, book: &Entry) -> Result<(), WorkError> {
+    let style = bare_style(alloc)?;
+    let authors = authors_half(alloc, &style, book)?;
+    let other = other_half(alloc, &style, book)?;
+    let is_silent = is_other_half_silent(alloc, &style)?;
+    writeln!(out, "halves: {authors}, {other}, silent: {is_silent}")?;
+    let (named, layout) = (
+        named_by(alloc, &style, style.citation())?,
+        issue_key(alloc)?,
+    );
+    let cite = cite_by_snapshot(alloc, &style, &named, book)?;
+    let key = key_by_snapshot(alloc, &style, &named, &layout, book)?;
+    writeln!(out, "by a snapshot: {cite}, {key}")?;
+    let other = the_compilers_book(alloc)?;
+    let order = order_by_issue(alloc, &style, book, &other)?;
+    writeln!(out, "by date: {order:?}")?;
     Ok(())
 }
 
@@ -234,6 +258,7 @@ pub fn text(alloc: Global) -> Result<String, WorkError> {
     show_texts(out, alloc, &book, &film)?;
     show_styled(out, alloc, &style, &book, &film)?;
     show_in_text(out, alloc)?;
+    show_clauses(out, alloc, &book)?;
     show_namesakes(out, alloc)?;
     show_list(out, alloc, &style)?;
     show_whole_lists(out, alloc)?;

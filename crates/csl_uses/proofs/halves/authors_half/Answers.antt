@@ -1,0 +1,9 @@
+use Rattle.std.proofs.Common.{refl, ap, ◌∙◌}
+use Rattle.csl.specs.Nodes.Text.{RenderOutput}
+use Rattle.csl.specs.Render.Names.{author}
+use Rattle.csl.specs.Tree.Write.{plain_text}
+use Rattle.csl_uses.proofs.halves.authors_half.Goals as goal
+
+pub returns-clause-alone : goal.returns-clause-alone
+returns-clause-alone g c others same =
+    c.in_ok-to_text.ensures ∙ ap (λ (m : RenderOutput). plain_text m.content) (c.in_ok-part.ensures.alone author refl others same)
