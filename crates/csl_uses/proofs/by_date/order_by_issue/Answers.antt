@@ -13,12 +13,14 @@ no_suffix : (implicit : Bool) → (implicit && false) ≡ false
 no_suffix true = refl
 no_suffix false = refl
 
-pub returns-clause-in_time : goal.returns-clause-in_time
-returns-clause-in_time g c one other =
-    let style = c.args.style.now in
-    let cite = cite_state c.first-first.result in
-    let bare : has_keyed_suffix style Bibliography cite ≡ false =
-    subst (λ (s : CiteState). has_keyed_suffix style Bibliography s ≡ false) (sym c.first-first.ensures) (no_suffix _) in
-    c.cmp.ensures
-    ∙ ap (λ (xs : List ℕ). slice_cmp nat_cmp (string_bytes c.in_ok-key.key) xs) c.in_ok-next.ensures.ok
-    ∙ c.in_ok-key.ensures.by_date issue Issued cite (g.U.EntryLike.answers c.args.other.now) c.in_ok-layout.ensures (λ part. refl) bare bare one other
+pub returns : goal.returns
+returns g c = record {
+  in_time = λ one other.
+      let style = c.args.style.now in
+      let cite = cite_state c.first-first.result in
+      let bare : has_keyed_suffix style Bibliography cite ≡ false =
+      subst (λ (s : CiteState). has_keyed_suffix style Bibliography s ≡ false) (sym c.first-first.ensures) (no_suffix _) in
+      c.cmp.ensures
+      ∙ ap (λ (xs : List ℕ). slice_cmp nat_cmp (string_bytes c.in_ok-key.key) xs) c.in_ok-next.ensures.ok
+      ∙ c.in_ok-key.ensures.by_date issue Issued cite (g.U.EntryLike.answers c.args.other.now) c.in_ok-layout.ensures (λ part. refl) bare bare one other;
+}
