@@ -4,6 +4,5 @@ pub mod ByDate
 pub mod BySnapshot
 pub mod Cite
 pub mod Film
-pub mod Links
 pub mod List
 pub mod Page

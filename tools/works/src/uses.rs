@@ -1,5 +1,5 @@
-//! The examples of `csl_uses`, called one after another: `tools/works/uses.stdout` has what they
-//! make.
+//! The examples of `csl_uses`, called one after another, and what `csl_finish` makes of texts and
+//! links: `tools/works/uses.stdout` has what they make.
 
 mod twelve;
 mod unfinished;
@@ -8,15 +8,14 @@ use crate::error::WorkError;
 use csl::literature::Entry;
 use csl::style::{Layout, Style};
 use csl::{BufWriteFormat, EntryLike, Error, Snapshot, named_by};
+use csl_finish::{fold, with_links_to, with_web_links};
 use csl_uses::book::{book_label, the_c_book};
 use csl_uses::by_date::{issue_key, order_by_issue};
 use csl_uses::by_snapshot::{cite_by_snapshot, key_by_snapshot};
 use csl_uses::cite::{bibliography_line, cite, house_style, page_cite, the_compilers_book};
 use csl_uses::film::{Film, metropolis, title_of};
-use csl_uses::fold::fold;
 use csl_uses::halves::{authors_half, is_other_half_silent, other_half};
 use csl_uses::in_text::{bare_style, cite_in_text, sorted_cites};
-use csl_uses::links::{with_links_to, with_web_links};
 use csl_uses::list::{annotate_first, count_new, lines, rename_first};
 use csl_uses::missing::missing_word;
 use csl_uses::namesakes::{book_by_miller, cites_apart, short_style};
