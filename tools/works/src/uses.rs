@@ -6,7 +6,9 @@ mod unfinished;
 
 use crate::error::WorkError;
 use csl::literature::Entry;
-use csl::style::{Layout, Style};
+use csl::style::{
+    Choose, ChooseBranch, Layout, NameVariable, StandardVariable, Style, StyleSettings, Text,
+};
 use csl::{BufWriteFormat, EntryLike, Error, Snapshot, named_by};
 use csl_finish::{fold, with_links_to, with_web_links};
 use csl_uses::book::{book_label, the_c_book};
@@ -96,14 +98,30 @@ fn show_in_text(out: &mut String, alloc: Global) -> Result<(), WorkError> {
     Ok(())
 }
 
-/// Writes both halves of the cite of the book, its cite and its key by the date of issue from a
-/// snapshot, and how it and the compilers' book are ordered by that date.
+/// A style that cites a work by its title, if it has authors.
+fn testing_style(alloc: Global) -> Result<Style, Error> {
+    let title = Text::variable(StandardVariable::Title.into());
+    let has_authors = ChooseBranch {
+        variable: Some(vec![in alloc; NameVariable::Author.into()]?),
+        ..ChooseBranch::new(vec![in alloc; title.into()]?)
+    };
+    let citation = Layout::new(vec![in alloc; Choose::new(alloc, has_authors).into()]?);
+    let (macros, locales) = (Vec::new(alloc), Vec::new(alloc));
+    let settings = StyleSettings::default();
+    Ok(Style::new(alloc, settings, macros, citation, None, locales)?)
+}
+
+/// Writes both halves of the cite of the book, whether the other half is silent where a test names
+/// the authors, the book's cite and its key by the date of issue from a snapshot, and how it and the
+/// compilers' book are ordered by that date.
 fn show_clauses(out: &mut String, alloc: Global, book: &Entry) -> Result<(), WorkError> {
     let style = bare_style(alloc)?;
     let authors = authors_half(alloc, &style, book)?;
     let other = other_half(alloc, &style, book)?;
     let is_silent = is_other_half_silent(alloc, &style)?;
     writeln!(out, "halves: {authors}, {other}, silent: {is_silent}")?;
+    let is_silent = is_other_half_silent(alloc, &testing_style(alloc)?)?;
+    writeln!(out, "where authors are tested: {is_silent}")?;
     let (named, layout) = (
         named_by(alloc, &style, style.citation())?,
         issue_key(alloc)?,
