@@ -1,2 +1,4 @@
 mod Directions
 mod KeptLines
+mod Pages
+mod Places

@@ -1,17 +1,16 @@
 //! Cites in the running text, as `Kwan (2014)`, and works in the order of their names and years.
 //! Definitions: specs/Cite.antt.
 
-ghost use Rattle.std.specs.Prelude.{◌≡◌, IfOk, string_bytes};
+ghost use Rattle.std.specs.Prelude.{◌≡◌, IfOk, IsPermutation, map, string_bytes};
 ghost use Rattle.csl_uses.specs.Cite as spec;
 
-use csl::literature::Entry;
+use crate::order::order_by_key;
 use csl::style::{
     CslMacro, Date, DatePart, DatePartName, DateVariable, Group, InheritableNameOptions, Layout,
-    NameAnd, NameForm, NameVariable, Names, Scope, Style, StyleSettings, Text,
+    NameAnd, NameForm, NameVariable, Names, Style, StyleSettings, Text,
 };
 use csl::{
-    BufWriteFormat, CiteProperties, DisambiguateState, EntryLike, Error, Sorting, SpecialForm,
-    english,
+    BufWriteFormat, CiteProperties, DisambiguateState, EntryLike, Error, SpecialForm, english,
 };
 use std::alloc::Global;
 
@@ -90,20 +89,21 @@ pub fn cite_in_text<T: EntryLike>(alloc: Global, style: &Style, entry: &T) -> Re
 /// whole names, with the family name first.
 ///
 /// # Errors
-/// [`Error::Memory`]: out of memory, here or in an entry.
-pub fn sorted_cites(alloc: Global, style: &Style, works: &[Entry]) -> Result<Vec<String>, Error> {
+/// [`Error::Memory`]: out of memory, here or in a work.
+#[tactic(auto, using(crate::proofs::Places::place_below))]
+pub fn sorted_cites<T: EntryLike>(
+    alloc: Global,
+    style: &Style,
+    works: &[T],
+) -> Result<Vec<String>, Error>
+    ensures { IfOk result (λ cites. IsPermutation (spec.all_in_text T.answers style.now works.now)
+        (map string_bytes cites.items)) }
+{
     let layout = calling_author_year(alloc)?;
-    let first = CiteProperties::first(DisambiguateState::None);
-    let (scope, sorting) = (Scope::Bibliography, Sorting::Macro);
-    let mut keyed = Vec::new(alloc);
-    for work in works {
-        let key = csl::sort_key(alloc, style, work, &first, &layout, scope, sorting)?;
-        keyed.push((key, cite_in_text(alloc, style, work)?))?;
-    }
-    keyed.sort_unstable();
+    let order = order_by_key(alloc, style, &layout, works)?;
     let mut cites = Vec::new(alloc);
-    for (_key, cite) in keyed {
-        cites.push(cite)?;
+    for place in &order {
+        cites.push(cite_in_text(alloc, style, &works[*place])?)?;
     }
     Ok(cites)
 }

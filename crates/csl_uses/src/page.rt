@@ -1,12 +1,17 @@
 //! A reference list as a whole web page: texts are escaped, and only web addresses are links.
 
-ghost use Rattle.std.specs.Prelude.{◌≡◌, IfOk, filter, not, string_bytes};
+ghost use Rattle.std.specs.Prelude.{◌≡◌, ◌++◌, IfOk, List, OnOk, codes, filter, not, string_bytes};
+ghost use Rattle.std.specs.List.{All};
 ghost use Rattle.std.specs.Str.{NonePass, chars};
-ghost use Rattle.csl.specs.Tree.Tokens.{tokens, leaf_text};
+ghost use Rattle.csl.specs.Literature.WebAddress.{IsWebAddress};
+ghost use Rattle.csl.specs.Tree.Links.{addresses};
+ghost use Rattle.csl.specs.Tree.Tokens.{Token, tokens, leaf_text};
+ghost use Rattle.csl.specs.Tree.Write.{text_in_format};
+ghost use Rattle.csl.specs.Tree.declared.elem.BufWriteFormat.TheVariants.{Html};
+ghost use Rattle.csl_finish.specs.Links.{IsWebAddressAt};
 ghost use Rattle.csl_uses.specs.Page as spec;
 ghost use Rattle.csl_uses.specs.Page.{answers_of};
 
-use crate::links;
 use csl::entry::SpeculativeCiteProperties;
 use csl::literature::{
     ChunkedString, Date, LongShortForm, MaybeTyped, Numeric, PageRanges, Person,
@@ -20,6 +25,7 @@ use csl::{
     BufWriteFormat, CitationNumber, CiteProperties, DisambiguateState, ElemChildren, EntryLike,
     Error, Memory, english,
 };
+use csl_finish::{with_links_to, with_web_links};
 use std::alloc::Global;
 use std::borrow::{Cow, CowStr};
 
@@ -239,8 +245,9 @@ fn list_line<T: EntryLike>(
     entry: &T,
     place: usize,
 ) -> Result<ElemChildren, Error>
-    ensures { IfOk result (λ line. leaf_text (tokens line)
+    ensures text { IfOk result (λ line. leaf_text (tokens line)
         ≡ leaf_text (spec.numbered_line style.now place (T.answers entry.now))) }
+    ensures web { IfOk result (λ line. All IsWebAddress (addresses (tokens line))) }
 {
     let Ok(place) = u32::try_from(place) else {
         return Err(Error::NotNumeric);
@@ -257,7 +264,7 @@ fn list_line<T: EntryLike>(
         },
     };
     match csl::bibliography_entry(alloc, style, entry, &cite)? {
-        Some(rendered) => Ok(links::with_web_links(alloc, rendered.content)?),
+        Some(rendered) => Ok(with_web_links(alloc, rendered.content)?),
         None => Ok(ElemChildren::new(alloc)),
     }
 }
@@ -292,31 +299,49 @@ pub fn line_with_links_to<T: EntryLike>(
     place: usize,
     hosts: &[&str],
 ) -> Result<String, Error>
-    ensures { IfOk result (λ html. NonePass spec.is_direction_control (chars (string_bytes html))) }
+    ensures printed { IfOk result (λ html. (line : List Token)
+        × spec.IsLineWith (IsWebAddressAt hosts.now) style.now place (T.answers entry.now) line
+        × spec.IsStripped (text_in_format Html line) (string_bytes html)) }
+    ensures directions { IfOk result (λ html. NonePass spec.is_direction_control
+        (chars (string_bytes html))) }
 {
     let line = list_line(alloc, style, entry, place)?;
-    let line = links::with_links_to(alloc, line, hosts)?;
+    let line = with_links_to(alloc, line, hosts)?;
     let mut line = line.to_text(alloc, BufWriteFormat::Html)?;
     drop_direction_controls(&mut line);
     Ok(line)
 }
 
-/// A whole page of HTML: the bibliography of these entries in their order, numbered from 1, without
-/// direction controls.
+/// Adds the line of an entry to a page, in an element of its own.
+fn push_entry(html: &mut String, line: &str) -> Result<(), Error>
+    ensures { OnOk result (string_bytes html.new ≡ string_bytes html.old
+        ++ (codes "<div class=\"entry\">" ++ (line.now ++ codes "</div>\n"))) }
+{
+    html.push_str("<div class=\"entry\">")?;
+    html.push_str(line)?;
+    html.push_str("</div>\n")?;
+    Ok(())
+}
+
+/// A whole page of HTML: the bibliography of these entries in their order, numbered from 1, with
+/// links to web addresses alone and without direction controls.
 ///
 /// # Errors
 /// [`Error::Memory`]: out of memory, here or in an entry.
 /// [`Error::NotNumeric`]: there are more entries than citation numbers.
-/// [`Error::Refused`]: out of memory while a line is added to the page.
 #[tactic(auto, using(crate::proofs::Directions::none_left))]
 pub fn page<T: EntryLike>(alloc: Global, style: &Style, entries: &[T]) -> Result<String, Error>
-    ensures { IfOk result (λ html. NonePass spec.is_direction_control (chars (string_bytes html))) }
+    ensures printed { IfOk result (λ html. (lines : List (List Token))
+        × spec.AreWebLines T.answers style.now entries.now lines
+        × spec.IsStripped (spec.page_html HEAD.now lines TAIL.now) (string_bytes html)) }
+    ensures directions { IfOk result (λ html. NonePass spec.is_direction_control
+        (chars (string_bytes html))) }
 {
     let mut html = String::from_str(alloc, HEAD)?;
     for (place, entry) in entries.iter().enumerate() {
         let line = list_line(alloc, style, entry, place)?;
         let line = line.to_text(alloc, BufWriteFormat::Html)?;
-        writeln!(&mut html, "<div class=\"entry\">{line}</div>")?;
+        push_entry(&mut html, line.as_str())?;
     }
     html.push_str(TAIL)?;
     drop_direction_controls(&mut html);

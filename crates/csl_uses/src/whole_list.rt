@@ -1,11 +1,12 @@
 //! A whole list, end to end, to be copied: works sorted, numbered, cited, disambiguated, listed.
 
-use crate::{finish, fold, links};
-use csl::style::{Layout, NameVariable, Scope, Style};
+use crate::order::order_by_key;
+use csl::style::{Layout, NameVariable, Style};
 use csl::{
     BufWriteFormat, CitationNumber, CiteProperties, DisambiguateState, ElemChildren, EntryLike,
-    Error, NameDisambiguationProperties, Rendered, Snapshot, Sorting,
+    Error, NameDisambiguationProperties, Rendered, Snapshot,
 };
+use csl_finish::{finish, with_web_links};
 use std::alloc::Global;
 use std::mem;
 
@@ -13,8 +14,6 @@ use std::mem;
 #[derive(Drop)]
 pub struct Listed<'w, T> {
     work: &'w T,
-    /// The sort key, folded and as it is.
-    key: (String, String),
     snapshot: Snapshot,
     props: CiteProperties<'static>,
     names: Option<NameDisambiguationProperties>,
@@ -95,8 +94,9 @@ impl<'w, T: EntryLike> Listed<'w, T> {
         }
         match csl::bibliography_entry(alloc, style, self.work, &self.props)? {
             Some(line) => {
-                let mut content = links::with_web_links(alloc, line.content)?;
-                finish::finish(alloc, style, &mut content)?;
+                let mut content = line.content;
+                finish(alloc, style, &mut content)?;
+                let content = with_web_links(alloc, content)?;
                 Ok(content.to_text(alloc, BufWriteFormat::Html)?)
             }
             None => Ok(String::new(alloc)),
@@ -104,7 +104,8 @@ impl<'w, T: EntryLike> Listed<'w, T> {
     }
 }
 
-/// The works by their sort keys. Case and accents count only between keys that are equal without.
+/// The works in the order of their sort keys, without cites.
+#[tactic(auto, using(crate::proofs::Places::place_below))]
 fn sorted<'w, T: EntryLike>(
     alloc: Global,
     style: &Style,
@@ -112,18 +113,14 @@ fn sorted<'w, T: EntryLike>(
     works: &'w [T],
 ) -> Result<List<'w, T>, Error> {
     let named = csl::named_by(alloc, style, style.citation())?;
-    let (scope, sorting) = (Scope::Bibliography, Sorting::Macro);
     let mut list = Vec::new(alloc);
-    for work in works {
-        let props = CiteProperties::first(DisambiguateState::None);
-        let key = csl::sort_key(alloc, style, work, &props, key, scope, sorting)?;
-        let key = (fold::fold(alloc, key.as_str())?, key);
+    for place in &order_by_key(alloc, style, key, works)? {
+        let work = &works[*place];
         let snapshot = Snapshot::new(alloc, work, &named)?;
         list.push(Listed {
             work,
-            key,
             snapshot,
-            props,
+            props: CiteProperties::first(DisambiguateState::None),
             names: None,
             content: ElemChildren::new(alloc),
             equal: 0,
@@ -131,7 +128,6 @@ fn sorted<'w, T: EntryLike>(
             cite: String::new(alloc),
         })?;
     }
-    list.sort_unstable_by(|a, b| a.key.cmp(&b.key));
     Ok(list)
 }
 

@@ -1,19 +1,23 @@
-//! The examples of `csl_uses`, called one after another: `tools/works/uses.stdout` has what they
-//! make.
+//! The examples of `csl_uses`, called one after another, and what `csl_finish` makes of texts and
+//! links: `tools/works/uses.stdout` has what they make.
 
 mod twelve;
 mod unfinished;
 
 use crate::error::WorkError;
 use csl::literature::Entry;
-use csl::style::{Layout, Style};
-use csl::{BufWriteFormat, EntryLike, Error, Snapshot};
+use csl::style::{
+    Choose, ChooseBranch, Layout, NameVariable, StandardVariable, Style, StyleSettings, Text,
+};
+use csl::{BufWriteFormat, EntryLike, Error, Snapshot, named_by};
+use csl_finish::{fold, with_links_to, with_web_links};
 use csl_uses::book::{book_label, the_c_book};
+use csl_uses::by_date::{issue_key, order_by_issue};
+use csl_uses::by_snapshot::{cite_by_snapshot, key_by_snapshot};
 use csl_uses::cite::{bibliography_line, cite, house_style, page_cite, the_compilers_book};
 use csl_uses::film::{Film, metropolis, title_of};
-use csl_uses::fold::fold;
+use csl_uses::halves::{authors_half, is_other_half_silent, other_half};
 use csl_uses::in_text::{bare_style, cite_in_text, sorted_cites};
-use csl_uses::links::{with_links_to, with_web_links};
 use csl_uses::list::{annotate_first, count_new, lines, rename_first};
 use csl_uses::missing::missing_word;
 use csl_uses::namesakes::{book_by_miller, cites_apart, short_style};
@@ -91,6 +95,43 @@ fn show_in_text(out: &mut String, alloc: Global) -> Result<(), WorkError> {
         "one in the text: {}",
         cite_in_text(alloc, &style, &book)?
     )?;
+    Ok(())
+}
+
+/// A style that cites a work by its title, if it has authors.
+fn testing_style(alloc: Global) -> Result<Style, Error> {
+    let title = Text::variable(StandardVariable::Title.into());
+    let has_authors = ChooseBranch {
+        variable: Some(vec![in alloc; NameVariable::Author.into()]?),
+        ..ChooseBranch::new(vec![in alloc; title.into()]?)
+    };
+    let citation = Layout::new(vec![in alloc; Choose::new(alloc, has_authors).into()]?);
+    let (macros, locales) = (Vec::new(alloc), Vec::new(alloc));
+    let settings = StyleSettings::default();
+    Ok(Style::new(alloc, settings, macros, citation, None, locales)?)
+}
+
+/// Writes both halves of the cite of the book, whether the other half is silent where a test names
+/// the authors, the book's cite and its key by the date of issue from a snapshot, and how it and the
+/// compilers' book are ordered by that date.
+fn show_clauses(out: &mut String, alloc: Global, book: &Entry) -> Result<(), WorkError> {
+    let style = bare_style(alloc)?;
+    let authors = authors_half(alloc, &style, book)?;
+    let other = other_half(alloc, &style, book)?;
+    let is_silent = is_other_half_silent(alloc, &style)?;
+    writeln!(out, "halves: {authors}, {other}, silent: {is_silent}")?;
+    let is_silent = is_other_half_silent(alloc, &testing_style(alloc)?)?;
+    writeln!(out, "where authors are tested: {is_silent}")?;
+    let (named, layout) = (
+        named_by(alloc, &style, style.citation())?,
+        issue_key(alloc)?,
+    );
+    let cite = cite_by_snapshot(alloc, &style, &named, book)?;
+    let key = key_by_snapshot(alloc, &style, &named, &layout, book)?;
+    writeln!(out, "by a snapshot: {cite}, {key}")?;
+    let other = the_compilers_book(alloc)?;
+    let order = order_by_issue(alloc, &style, book, &other)?;
+    writeln!(out, "by date: {order:?}")?;
     Ok(())
 }
 
@@ -234,6 +275,7 @@ pub fn text(alloc: Global) -> Result<String, WorkError> {
     show_texts(out, alloc, &book, &film)?;
     show_styled(out, alloc, &style, &book, &film)?;
     show_in_text(out, alloc)?;
+    show_clauses(out, alloc, &book)?;
     show_namesakes(out, alloc)?;
     show_list(out, alloc, &style)?;
     show_whole_lists(out, alloc)?;

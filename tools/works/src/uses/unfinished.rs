@@ -3,7 +3,7 @@
 use csl::style::{Layout, StyleSettings};
 use csl::tree::{Elem, ElemChild, Formatting};
 use csl::{ElemChildren, Error, Locale, Style};
-use csl_uses::finish::finish;
+use csl_finish::finish;
 use std::alloc::Global;
 
 /// The texts of some contents, each text the output of one node.
@@ -15,7 +15,7 @@ static TEXTS: [&[&str]; 8] = [
     // An ellipsis and an address stay.
     &["And So On...", " ", "2014."],
     &["See ", "https://example.org/a..b", "."],
-    // A comma and a period after quotes.
+    // A comma and a period after quotes, and quotes in quotes.
     &["“Literate Programming”", ", 1992."],
     &["‘“Yes”, she said’", ". ", "1992."],
     &["“Whose Cities?”", ". ", "1992."],
