@@ -1,4 +1,6 @@
 pub mod Addresses
+pub mod Elements
+pub mod Folded
 pub mod Marks
 pub mod Order
 pub mod Words

@@ -6,6 +6,7 @@ use Rattle.std.specs.Char.Unicode.Alphabetic.{is_alphabetic}
 use Rattle.std.specs.Char.Unicode.Numeric.{is_numeric}
 use Rattle.std.specs.List.{flat_map}
 use Rattle.std.specs.Str.{chars}
+use Rattle.csl_tree.specs.Tokens.{Token, text, solid, markup, link, transparent, elem_start, elem_end}
 use Rattle.csl_finish.specs.declared.letters.Letter.{Letter}
 
 abbrev pub is_word_char : ℕ → Bool
@@ -29,3 +30,16 @@ word_of l = placed l.text (word l.value)
 
 abbrev pub words : List Letter → List (ℕ × ℕ)
 words ls = flat_map word_of ls
+
+-- a content without the characters of its texts: links, markup, places, elements, and the formatting
+-- of each text, in order
+abbrev pub bare : Token → Token
+bare (text bs f) = text [] f
+bare (solid (markup bs)) = solid (markup bs)
+bare (solid (link bs f url)) = solid (link bs f url)
+bare (solid (transparent n f)) = solid (transparent n f)
+bare (solid (elem_start d m)) = solid (elem_start d m)
+bare (solid (elem_end d)) = solid (elem_end d)
+
+abbrev pub bares : List Token → List Token
+bares ts = map bare ts

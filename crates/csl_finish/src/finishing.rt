@@ -1,6 +1,9 @@
 //! A rendered text as publishers print it.
+//! Definitions: specs/Letters.antt.
 
-ghost use Rattle.std.specs.Prelude.{◌≡◌, OnErr};
+ghost use Rattle.std.specs.Prelude.{◌≡◌, OnErr, OnOk};
+ghost use Rattle.csl_tree.specs.Tokens.{tokens};
+ghost use Rattle.csl_finish.specs.Letters.{bares};
 
 use crate::letters::{Letter, read_letters, with_texts, write_letters};
 use crate::punctuation::merged_letters;
@@ -45,7 +48,9 @@ fn with_quotes(alloc: Global, style: &Style, letters: Vec<Letter>) -> Result<Vec
 /// # Errors
 /// [`Memory`]: out of memory. The content is unchanged.
 pub fn finish(alloc: Global, style: &Style, content: &mut ElemChildren) -> Result<(), Memory>
-    ensures { OnErr result (content.new ≡ content.old) }
+    // Links, markup, places and elements stay, and so does each text with its formatting.
+    ensures others { OnOk result (bares (tokens content.new) ≡ bares (tokens content.old)) }
+    ensures err { OnErr result (content.new ≡ content.old) }
 {
     let mut letters = Vec::new(alloc);
     let mut texts = Vec::new(alloc);

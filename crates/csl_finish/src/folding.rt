@@ -1,6 +1,8 @@
 //! Texts to sort by, in which case, accents and punctuation do not count.
 
-ghost use Rattle.std.specs.Prelude.{◌≡◌, encode_utf8_all, option_map};
+ghost use Rattle.std.specs.Prelude.{◌≡◌, ◌++◌, encode_utf8_all, option_map, IfOk, OnOk, string_bytes};
+ghost use Rattle.std.specs.Char.{is_ascii_digit};
+ghost use Rattle.std.specs.List.{list_all};
 ghost use Rattle.csl_finish.specs.Folding as spec;
 
 use caseless::default_case_fold_str;
@@ -11,10 +13,19 @@ use unicode_normalization::to_nfkd;
 /// The number of digits of a year in a sort key.
 const YEAR_DIGITS: usize = 9;
 
+/// Whether characters are digits.
+fn are_digits(text: &[char]) -> bool
+    ensures { result ≡ list_all is_ascii_digit text.now }
+{
+    text.iter().all(|it| it.is_ascii_digit())
+}
+
 /// Whether a text begins with the digits of a year.
-fn begins_with_year(text: &[char]) -> bool {
+fn begins_with_year(text: &[char]) -> bool
+    ensures { result ≡ spec.begins_with_year text.now }
+{
     match text.split_at_checked(YEAR_DIGITS) {
-        Some((year, _)) => year.iter().all(|it| it.is_ascii_digit()),
+        Some((year, _)) => are_digits(year),
         None => false,
     }
 }
@@ -32,7 +43,9 @@ fn era_mark(letter: char) -> Option<char>
 
 /// The mark of an era, if the letter begins the key of a year, where `after` follows. It comes
 /// before all letters, as a year does.
-fn era_of(letter: char, after: &[char]) -> Option<char> {
+fn era_of(letter: char, after: &[char]) -> Option<char>
+    ensures { result ≡ spec.era_of letter after.now }
+{
     if begins_with_year(after) {
         era_mark(letter)
     } else {
@@ -69,7 +82,10 @@ fn counts(letter: char) -> bool
 }
 
 /// Appends what a letter sorts as, where `after` follows.
-fn push_folded(folded: &mut String, letter: char, after: &[char]) -> Result<(), Memory> {
+fn push_folded(folded: &mut String, letter: char, after: &[char]) -> Result<(), Memory>
+    ensures { OnOk result (string_bytes folded.new
+        ≡ string_bytes folded.old ++ encode_utf8_all (spec.folded_char letter after.now)) }
+{
     if let Some(era) = era_of(letter, after) {
         folded.push(era)?;
     } else if let Some(base) = base_of(letter) {
@@ -81,7 +97,10 @@ fn push_folded(folded: &mut String, letter: char, after: &[char]) -> Result<(), 
 }
 
 /// What letters sort as.
-fn folded_letters(alloc: Global, letters: &[char]) -> Result<String, Memory> {
+fn folded_letters(alloc: Global, letters: &[char]) -> Result<String, Memory>
+    ensures { IfOk result (λ folded. string_bytes folded
+        ≡ encode_utf8_all (spec.folded_chars letters.now)) }
+{
     let mut folded = String::new(alloc);
     for (index, letter) in letters.iter().enumerate() {
         push_folded(&mut folded, *letter, &letters[index + 1..])?;
@@ -103,7 +122,9 @@ fn folded_letters(alloc: Global, letters: &[char]) -> Result<String, Memory> {
 ///
 /// # Errors
 /// [`Memory`]: out of memory.
-pub fn fold(alloc: Global, text: &str) -> Result<String, Memory> {
+pub fn fold(alloc: Global, text: &str) -> Result<String, Memory>
+    ensures { IfOk result (λ folded. string_bytes folded ≡ spec.folded text.now) }
+{
     let decomposed = to_nfkd(alloc, text)?;
     let small = default_case_fold_str(alloc, decomposed.as_str())?;
     let letters = small.chars().collect::<Vec<char>>(alloc)?;

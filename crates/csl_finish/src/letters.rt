@@ -1,9 +1,10 @@
 //! The characters of a content in a row, each with the text that it stands in.
 
-ghost use Rattle.std.specs.Prelude.{◌≡◌, ◌++◌, OnOk};
-ghost use Rattle.csl_finish.specs.Letters.{placed, words, words_of};
+ghost use Rattle.std.specs.Prelude.{◌≡◌, ◌++◌, IfOk, OnOk};
+ghost use Rattle.csl_tree.specs.Tokens.{child_tokens, optional_meta, tokens};
+ghost use Rattle.csl_finish.specs.Letters.{bares, placed, words, words_of};
 
-use csl_tree::{Elem, ElemChild, ElemChildren};
+use csl_tree::{Elem, ElemChild, ElemChildren, ElemMeta};
 use lit_model::Memory;
 use std::alloc::Global;
 use std::vec;
@@ -93,13 +94,25 @@ pub(crate) fn write_letters(letters: &[Letter], texts: &mut [String]) -> Result<
     Ok(())
 }
 
+/// A copy of the meta, if there is one.
+fn copied_meta(alloc: Global, meta: &Option<ElemMeta>) -> Result<Option<ElemMeta>, Memory>
+    ensures { IfOk result (λ copy. optional_meta copy ≡ optional_meta meta.now) }
+{
+    match meta {
+        None => Ok(None),
+        Some(meta) => Ok(Some(meta.clone(alloc)?)),
+    }
+}
+
 /// A copy of the content in which each text is the next of `texts`.
 #[cycle(texts)]
 pub(crate) fn with_texts(
     alloc: Global,
     content: &ElemChildren,
     texts: &mut vec::IntoIter<String>,
-) -> Result<ElemChildren, Memory> {
+) -> Result<ElemChildren, Memory>
+    ensures { IfOk result (λ copy. bares (tokens copy) ≡ bares (tokens content.now)) }
+{
     let mut copies = Vec::with_capacity(alloc, content.0.len())?;
     for child in &content.0 {
         copies.push(child_with_texts(alloc, child, texts)?)?;
@@ -113,7 +126,9 @@ fn child_with_texts(
     alloc: Global,
     child: &ElemChild,
     texts: &mut vec::IntoIter<String>,
-) -> Result<ElemChild, Memory> {
+) -> Result<ElemChild, Memory>
+    ensures { IfOk result (λ copy. bares (child_tokens copy) ≡ bares (child_tokens child.now)) }
+{
     match child {
         ElemChild::Text(text) => match texts.next() {
             Some(new) => Ok(ElemChild::Text(text.formatting.add_text(new))),
@@ -121,10 +136,7 @@ fn child_with_texts(
         },
         ElemChild::Elem(elem) => {
             let children = with_texts(alloc, &elem.children, texts)?;
-            let meta = match &elem.meta {
-                Some(meta) => Some(meta.clone(alloc)?),
-                None => None,
-            };
+            let meta = copied_meta(alloc, &elem.meta)?;
             Ok(ElemChild::Elem(Elem {
                 children,
                 display: elem.display,
