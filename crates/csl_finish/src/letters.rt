@@ -9,7 +9,7 @@ use lit_model::Memory;
 use std::alloc::Global;
 use std::vec;
 
-/// What a character is to the quotes around it.
+/// What a step has found a character to be.
 #[derive(Clone, Copy, PartialEq, Eq)]
 pub(crate) enum Role {
     /// Nothing.
@@ -18,6 +18,8 @@ pub(crate) enum Role {
     Closing,
     /// A comma or period that has moved into a quote.
     Moved,
+    /// A letter that keeps its case.
+    Fixed,
 }
 
 /// A character of a content.
@@ -75,6 +77,15 @@ pub(crate) fn read_letters(
     Ok(())
 }
 
+/// The characters of letters as one text.
+pub(crate) fn text_of(alloc: Global, letters: &[Letter]) -> Result<String, Memory> {
+    let mut text = String::new(alloc);
+    for letter in letters {
+        text.push(letter.value)?;
+    }
+    Ok(text)
+}
+
 /// Appends a character to its text.
 fn write_letter(letter: Letter, texts: &mut [String]) -> Result<(), Memory> {
     let Some(index) = letter.text else {
@@ -95,7 +106,10 @@ pub(crate) fn write_letters(letters: &[Letter], texts: &mut [String]) -> Result<
 }
 
 /// A copy of the meta, if there is one.
-fn copied_meta(alloc: Global, meta: &Option<ElemMeta>) -> Result<Option<ElemMeta>, Memory>
+pub(crate) fn copied_meta(
+    alloc: Global,
+    meta: &Option<ElemMeta>,
+) -> Result<Option<ElemMeta>, Memory>
     ensures { IfOk result (λ copy. optional_meta copy ≡ optional_meta meta.now) }
 {
     match meta {

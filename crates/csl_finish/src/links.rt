@@ -36,7 +36,7 @@ pub fn with_web_links(alloc: Global, rendered: ElemChildren) -> Result<ElemChild
 }
 
 /// Whether the text is one of these.
-fn is_one_of(text: &str, texts: &[&str]) -> bool
+pub(crate) fn is_one_of(text: &str, texts: &[&str]) -> bool
     ensures { IsTrue result ↔ IsOneOf texts.now text.now }
 {
     for it in texts {

@@ -1,8 +1,10 @@
-//! Random trees: letters and digits stay in their texts, and all else stays as it was.
+//! Random trees. Finishing leaves letters and digits in their texts, and all else as it was. Text case
+//! changes nothing but case.
 
+use crate::csl_finish_tests::case::marked;
 use crate::csl_finish_tests::finish::style_of;
 use crate::csl_finish_tests::trees::{describe, read};
-use csl_finish::finish;
+use csl_finish::{apply_text_case, finish, fold, is_case_mark, without_case_marks};
 use csl_languages::Language;
 use std::alloc::Global;
 use std::process::Abort;
@@ -43,6 +45,38 @@ static PIECES: [&str; 32] = [
     "‚‘",
 ];
 
+/// Pieces of trees with marks of cases (`case.rs`).
+static CASED: [&str; 28] = [
+    "{t",
+    "t}",
+    "{s",
+    "s}",
+    "{f",
+    "f}",
+    "{a",
+    "a}",
+    "{u",
+    "u}",
+    "{l",
+    "l}",
+    "{n",
+    "n}",
+    "moss of",
+    " the Old",
+    ": a",
+    "ΟΔΟ",
+    "Σ",
+    "straße ",
+    "/É",
+    "@X",
+    "$Y",
+    "#",
+    "ǆ ﬁ",
+    "İ'i",
+    "/{tnode.js",
+    "\u{fddf}-",
+];
+
 /// A generator of numbers: that of Knuth's MMIX.
 #[derive(Drop)]
 struct Numbers(u64);
@@ -59,7 +93,7 @@ impl Numbers {
 }
 
 /// A description of sixteen pieces, with elements around some of them.
-fn description(rt: &impl Abort, alloc: Global, numbers: &mut Numbers) -> String {
+fn description(rt: &impl Abort, alloc: Global, numbers: &mut Numbers, pieces: &[&str]) -> String {
     let mut text = String::from_str(alloc, "a").expect(rt, "memory");
     let mut depth = 0;
     for _ in 0..16 {
@@ -72,7 +106,7 @@ fn description(rt: &impl Abort, alloc: Global, numbers: &mut Numbers) -> String 
                 depth -= 1;
                 "]"
             }
-            _ => PIECES[numbers.below(32) as usize],
+            _ => pieces[numbers.below(pieces.len() as u64) as usize],
         };
         text.push('|').expect(rt, "memory");
         text.push_str(piece).expect(rt, "memory");
@@ -122,8 +156,32 @@ fn letters_and_links_stay(rt: HostRuntime) {
         Language::German,
     ] {
         for _ in 0..50 {
-            let source = description(&rt, rt.alloc(), &mut numbers);
+            let source = description(&rt, rt.alloc(), &mut numbers, &PIECES);
             assert_kept(&rt, rt.alloc(), language, source.as_str());
         }
+    }
+}
+
+/// Asserts that a tree in the cases that its marks set has its letters and no mark.
+fn assert_cased(rt: &impl Abort, alloc: Global, source: &str, is_english: bool) {
+    let mut tree = read(rt, alloc, source);
+    let before = describe(rt, alloc, &tree);
+    apply_text_case(alloc, &mut tree, is_english).expect(rt, "memory");
+    let after = describe(rt, alloc, &tree);
+    assert!(rt; !after.as_str().chars().any(is_case_mark), "{after}");
+    let wanted = without_case_marks(alloc, before.as_str()).expect(rt, "memory");
+    let wanted = fold(alloc, wanted.as_str()).expect(rt, "memory");
+    let came = fold(alloc, after.as_str()).expect(rt, "memory");
+    assert_eq!(rt; came.as_str(), wanted.as_str(), "in {after} of {before}");
+}
+
+#[test]
+fn case_alone_changes(rt: HostRuntime) {
+    let alloc = rt.alloc();
+    let mut numbers = Numbers(96);
+    for index in 0..400 {
+        let source = description(&rt, alloc, &mut numbers, &CASED);
+        let source = marked(&rt, alloc, source.as_str());
+        assert_cased(&rt, alloc, source.as_str(), index % 4 != 0);
     }
 }
