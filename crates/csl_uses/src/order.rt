@@ -1,4 +1,5 @@
 //! Works in the order of their sort keys.
+//! Definitions: crates/csl_finish/specs/Keys.antt.
 
 ghost use Rattle.std.specs.Prelude.{IfOk};
 ghost use Rattle.csl_finish.specs.Keys.{ArePlaces};
