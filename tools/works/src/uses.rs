@@ -7,7 +7,7 @@ mod unfinished;
 use crate::error::WorkError;
 use csl::literature::Entry;
 use csl::style::{
-    Choose, ChooseBranch, Layout, NameVariable, StandardVariable, Style, StyleSettings, Text,
+    Choose, ChooseBranch, Layout, NameVariable, Names, StandardVariable, Style, StyleSettings, Text,
 };
 use csl::{BufWriteFormat, EntryLike, Error, Snapshot, named_by};
 use csl_finish::{fold, with_links_to, with_web_links};
@@ -111,10 +111,9 @@ fn testing_style(alloc: Global) -> Result<Style, Error> {
     Ok(Style::new(alloc, settings, macros, citation, None, locales)?)
 }
 
-/// Writes both halves of the cite of the book, whether the other half is silent where a test names
-/// the authors, the book's cite and its key by the date of issue from a snapshot, and how it and the
-/// compilers' book are ordered by that date.
-fn show_clauses(out: &mut String, alloc: Global, book: &Entry) -> Result<(), WorkError> {
+/// Writes both halves of the cite of the book, and whether the other half is silent in a style whose
+/// citation tests the authors.
+fn show_halves(out: &mut String, alloc: Global, book: &Entry) -> Result<(), WorkError> {
     let style = bare_style(alloc)?;
     let authors = authors_half(alloc, &style, book)?;
     let other = other_half(alloc, &style, book)?;
@@ -122,13 +121,22 @@ fn show_clauses(out: &mut String, alloc: Global, book: &Entry) -> Result<(), Wor
     writeln!(out, "halves: {authors}, {other}, silent: {is_silent}")?;
     let is_silent = is_other_half_silent(alloc, &testing_style(alloc)?)?;
     writeln!(out, "where authors are tested: {is_silent}")?;
-    let (named, layout) = (
-        named_by(alloc, &style, style.citation())?,
-        issue_key(alloc)?,
-    );
+    Ok(())
+}
+
+/// Writes the cite of the book, in italics, and its keys by authors and by the date of issue from
+/// snapshots, and how it and the compilers' book are ordered by that date.
+fn show_snapshots(out: &mut String, alloc: Global, book: &Entry) -> Result<(), WorkError> {
+    let style = title_style(alloc)?;
+    let named = named_by(alloc, &style, style.citation())?;
     let cite = cite_by_snapshot(alloc, &style, &named, book)?;
-    let key = key_by_snapshot(alloc, &style, &named, &layout, book)?;
-    writeln!(out, "by a snapshot: {cite}, {key}")?;
+    let style = bare_style(alloc)?;
+    let named = named_by(alloc, &style, style.citation())?;
+    let names = Names::new(alloc, vec![in alloc; NameVariable::Author]?);
+    let layout = Layout::new(vec![in alloc; names.into()]?);
+    let names = key_by_snapshot(alloc, &style, &named, &layout, book)?;
+    let date = key_by_snapshot(alloc, &style, &named, &issue_key(alloc)?, book)?;
+    writeln!(out, "by a snapshot: {cite}, {names}, {date}")?;
     let other = the_compilers_book(alloc)?;
     let order = order_by_issue(alloc, &style, book, &other)?;
     writeln!(out, "by date: {order:?}")?;
@@ -275,7 +283,8 @@ pub fn text(alloc: Global) -> Result<String, WorkError> {
     show_texts(out, alloc, &book, &film)?;
     show_styled(out, alloc, &style, &book, &film)?;
     show_in_text(out, alloc)?;
-    show_clauses(out, alloc, &book)?;
+    show_halves(out, alloc, &book)?;
+    show_snapshots(out, alloc, &book)?;
     show_namesakes(out, alloc)?;
     show_list(out, alloc, &style)?;
     show_whole_lists(out, alloc)?;
