@@ -8,28 +8,32 @@ use serde_json::{Map, Value};
 use std::alloc::Global;
 use std::process::Abort;
 
-/// A text of so many letters.
-fn letters(rt: &impl Abort, alloc: Global, count: usize) -> String {
-    let mut text = String::new(alloc);
+/// The texts in a row, as one.
+fn repeated(rt: &impl Abort, alloc: Global, text: &str, count: usize) -> String {
+    let mut all = String::new(alloc);
     for _ in 0..count {
-        text.push_str("a").expect(rt, "memory");
+        all.push_str(text).expect(rt, "memory");
     }
-    text
+    all
 }
 
-/// A text of so many letters as nodes.
-fn long_text(rt: &impl Abort, alloc: Global, count: usize) -> String {
-    let text = letters(rt, alloc, count);
+/// So many letters as nodes.
+fn long_text(rt: &impl Abort, alloc: Global, letter: &str, count: usize) -> String {
+    let text = repeated(rt, alloc, letter, count);
     format!(in alloc; "[{{\"text\": {{\"value\": \"{text}\"}}}}]").expect(rt, "memory")
 }
 
 #[test]
 fn texts_of_strangers_have_200_bytes(rt: HostRuntime) {
-    let longest = long_text(&rt, rt.alloc(), 200);
+    let longest = long_text(&rt, rt.alloc(), "a", 200);
     assert!(rt; read_nodes(&rt, rt.alloc(), longest.as_str()).is_ok());
-    let longer = long_text(&rt, rt.alloc(), 201);
+    let longer = long_text(&rt, rt.alloc(), "a", 201);
     let came = nodes_as_text(&rt, rt.alloc(), longer.as_str());
     let wanted = "/0/text/value too-long: the text is too long";
+    assert_eq!(rt; came.as_str(), wanted);
+    // 101 letters of two bytes
+    let accented = long_text(&rt, rt.alloc(), "é", 101);
+    let came = nodes_as_text(&rt, rt.alloc(), accented.as_str());
     assert_eq!(rt; came.as_str(), wanted);
     let value = json(&rt, rt.alloc(), longer.as_str());
     assert!(rt; nodes_of(rt.alloc(), &value, Limits::none()).is_ok());
@@ -39,7 +43,7 @@ fn texts_of_strangers_have_200_bytes(rt: HostRuntime) {
 /// A word of a refusal has at most 200 bytes too.
 #[test]
 fn long_words_are_not_named(rt: HostRuntime) {
-    let word = letters(&rt, rt.alloc(), 201);
+    let word = repeated(&rt, rt.alloc(), "a", 201);
     let text = format!(in rt.alloc(); "[{{\"{word}\": 1}}]").expect(&rt, "memory");
     let came = nodes_as_text(&rt, rt.alloc(), text.as_str());
     let wanted = "/0 unknown-name: no node has this name";
@@ -80,15 +84,6 @@ fn whole_numbers_below_two_to_the_32(rt: HostRuntime) {
         let came = nodes_as_text(&rt, rt.alloc(), text.as_str());
         assert_eq!(rt; came.as_str(), *wanted, "of {number}");
     }
-}
-
-/// The texts in a row, as one.
-fn repeated(rt: &impl Abort, alloc: Global, text: &str, count: usize) -> String {
-    let mut all = String::new(alloc);
-    for _ in 0..count {
-        all.push_str(text).expect(rt, "memory");
-    }
-    all
 }
 
 /// A list of groups in one another: so many lists of nodes, three levels of JSON each but the last.

@@ -13,7 +13,7 @@ fn assert_nodes(rt: &impl Abort, alloc: Global, rows: &[(&str, &str)]) {
     }
 }
 
-static UNKNOWN_NAMES: [(&str, &str); 14] = [
+static UNKNOWN_NAMES: [(&str, &str); 15] = [
     (
         r#"[{"texts": {}}]"#,
         r#"/0 unknown-name: no node has this name: "texts" (the nearest is "text")"#,
@@ -38,6 +38,11 @@ static UNKNOWN_NAMES: [(&str, &str); 14] = [
     (
         r#"[{"text": {"variable": "title", "form": "verb"}}]"#,
         r#"/0/text/form unknown-name: no value here has this name: "verb""#,
+    ),
+    // a beginning is no name
+    (
+        r#"[{"text": {"term": "page", "form": "verb-"}}]"#,
+        r#"/0/text/form unknown-name: no value here has this name: "verb-" (the nearest is "verb")"#,
     ),
     (
         r#"[{"number": {"variable": "title"}}]"#,
@@ -351,12 +356,13 @@ fn refused_locales(rt: HostRuntime) {
 }
 
 /// Texts that are no JSON, and where they go wrong.
-static NO_JSON: [(&str, &str); 6] = [
+static NO_JSON: [(&str, &str); 7] = [
     ("", " not-json: no JSON of at most 127 levels at line 1, column 0"),
     ("[1,\n 2", " not-json: no JSON of at most 127 levels at line 2, column 2"),
     ("{'a': 1}", " not-json: no JSON of at most 127 levels at line 1, column 2"),
     ("[01]", " not-json: no JSON of at most 127 levels at line 1, column 3"),
     (r#""\ud800""#, " not-json: no JSON of at most 127 levels at line 1, column 8"),
+    ("[];", " not-json: no JSON of at most 127 levels at line 1, column 3"),
     ("[1e999]", " not-json: no JSON of at most 127 levels at line 1, column 6"),
 ];
 

@@ -10,7 +10,8 @@ use std::alloc::Global;
 use std::process::Abort;
 
 /// A style of authors and dates.
-const AUTHOR_DATE: &str = r#"{
+const AUTHOR_DATE: &str = r#"
+{
   "and": "text",
   "macros": [
     {"name": "year", "children": [
@@ -32,7 +33,8 @@ const AUTHOR_DATE: &str = r#"{
       {"name": {"name-as-sort-order": "first", "sort-separator": ", "}}]}},
     {"text": {"variable": "title", "font-style": "italic", "suffix": "."}}]},
   "locales": ["en-US"]
-}"#;
+}
+"#;
 
 fn cite_text(rt: &impl Abort, alloc: Global, style: &Style, entry: &Entry) -> String {
     let first = CiteProperties::first(DisambiguateState::None);
