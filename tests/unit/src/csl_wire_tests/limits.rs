@@ -109,7 +109,10 @@ fn json_of_127_levels(rt: HostRuntime) {
     let deeper = format!(in rt.alloc(); "[{deepest}]").expect(&rt, "memory");
     let error = value_of_text(rt.alloc(), deeper.as_str()).err();
     let came = told(&rt, rt.alloc(), error.expect(&rt, "a refusal"));
-    assert!(rt; came.as_str().starts_with(" not-json: no JSON of at most 127 levels"));
+    assert!(rt;
+        came.as_str()
+            .starts_with(" not-json: no JSON of at most 127 levels")
+    );
 }
 
 /// A group with these children.
@@ -119,7 +122,9 @@ fn group_of(rt: &impl Abort, alloc: Global, children: Value) -> Value {
     inside.insert(name, children).expect(rt, "memory");
     let mut group = Map::new(alloc);
     let name = String::from_str(alloc, "group").expect(rt, "memory");
-    group.insert(name, Value::Object(inside)).expect(rt, "memory");
+    group
+        .insert(name, Value::Object(inside))
+        .expect(rt, "memory");
     Value::Array(alone(rt, alloc, Value::Object(group)))
 }
 

@@ -150,9 +150,13 @@ static TAGS: [&str; 11] = [
 type Place = (&'static str, &'static str);
 
 const OF_VARIABLE: Place = (r#"[{"text": {"variable": ""#, r#""}}]"#);
+
 const OF_TYPE: Place = (r#"[{"choose": {"if": {"type": [""#, r#""]}}}]"#);
+
 const OF_LOCATOR: Place = (r#"[{"choose": {"if": {"locator": [""#, r#""]}}}]"#);
+
 const OF_TERM: Place = (r#"[{"text": {"term": ""#, r#""}}]"#);
+
 const OF_TAG: Place = (r#"{"locales": [""#, r#""]}"#);
 
 /// The JSON with a name at its place.

@@ -194,10 +194,7 @@ static INNER: [(&str, &str); 5] = [
             "children": [{"text": {"value": "a"}}, {"group": {}}]}}]"#,
         r#"[(group delimiter=", " style=Italic prefix="[" suffix="]" [(text value="a")(group [])])]"#,
     ),
-    (
-        r#"[{"choose": {"if": {}}}]"#,
-        "[(choose (if All []))]",
-    ),
+    (r#"[{"choose": {"if": {}}}]"#, "[(choose (if All []))]"),
     (
         r#"[{"choose": {"if": {"match": "any", "type": ["book", "thesis"], "variable": ["DOI", "volume"],
             "children": [{"text": {"value": "a"}}]},

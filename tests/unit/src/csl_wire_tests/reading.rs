@@ -24,11 +24,7 @@ pub(crate) fn read_nodes(
 }
 
 /// The style of a text, as that of a stranger.
-pub(crate) fn read_style(
-    rt: &impl Abort,
-    alloc: Global,
-    text: &str,
-) -> Result<Style, WireError> {
+pub(crate) fn read_style(rt: &impl Abort, alloc: Global, text: &str) -> Result<Style, WireError> {
     style_of(alloc, &json(rt, alloc, text), Limits::of_strangers())
 }
 

@@ -300,10 +300,7 @@ fn refused_styles(rt: HostRuntime) {
 
 static LOCALES: [(&str, &str); 11] = [
     (r#""en-US""#, " wrong-type: an object goes here"),
-    (
-        r#"{"terms": {}}"#,
-        "/terms wrong-type: a list goes here",
-    ),
+    (r#"{"terms": {}}"#, "/terms wrong-type: a list goes here"),
     (
         r#"{"terms": [{"name": "page"}]}"#,
         r#"/terms/0 missing-member: a member is missing: "single""#,
@@ -357,13 +354,34 @@ fn refused_locales(rt: HostRuntime) {
 
 /// Texts that are no JSON, and where they go wrong.
 static NO_JSON: [(&str, &str); 7] = [
-    ("", " not-json: no JSON of at most 127 levels at line 1, column 0"),
-    ("[1,\n 2", " not-json: no JSON of at most 127 levels at line 2, column 2"),
-    ("{'a': 1}", " not-json: no JSON of at most 127 levels at line 1, column 2"),
-    ("[01]", " not-json: no JSON of at most 127 levels at line 1, column 3"),
-    (r#""\ud800""#, " not-json: no JSON of at most 127 levels at line 1, column 8"),
-    ("[];", " not-json: no JSON of at most 127 levels at line 1, column 3"),
-    ("[1e999]", " not-json: no JSON of at most 127 levels at line 1, column 6"),
+    (
+        "",
+        " not-json: no JSON of at most 127 levels at line 1, column 0",
+    ),
+    (
+        "[1,\n 2",
+        " not-json: no JSON of at most 127 levels at line 2, column 2",
+    ),
+    (
+        "{'a': 1}",
+        " not-json: no JSON of at most 127 levels at line 1, column 2",
+    ),
+    (
+        "[01]",
+        " not-json: no JSON of at most 127 levels at line 1, column 3",
+    ),
+    (
+        r#""\ud800""#,
+        " not-json: no JSON of at most 127 levels at line 1, column 8",
+    ),
+    (
+        "[];",
+        " not-json: no JSON of at most 127 levels at line 1, column 3",
+    ),
+    (
+        "[1e999]",
+        " not-json: no JSON of at most 127 levels at line 1, column 6",
+    ),
 ];
 
 #[test]
