@@ -26,18 +26,18 @@ fn long_text(rt: &impl Abort, alloc: Global, letter: &str, count: usize) -> Stri
 #[test]
 fn texts_of_strangers_have_200_bytes(rt: HostRuntime) {
     let longest = long_text(&rt, rt.alloc(), "a", 200);
-    assert!(rt; read_nodes(&rt, rt.alloc(), longest.as_str()).is_ok());
+    assert!(&rt; read_nodes(&rt, rt.alloc(), longest.as_str()).is_ok());
     let longer = long_text(&rt, rt.alloc(), "a", 201);
     let came = nodes_as_text(&rt, rt.alloc(), longer.as_str());
     let wanted = "/0/text/value too-long: the text is too long";
-    assert_eq!(rt; came.as_str(), wanted);
+    assert_eq!(&rt; came.as_str(), wanted);
     // 101 letters of two bytes
     let accented = long_text(&rt, rt.alloc(), "é", 101);
     let came = nodes_as_text(&rt, rt.alloc(), accented.as_str());
-    assert_eq!(rt; came.as_str(), wanted);
+    assert_eq!(&rt; came.as_str(), wanted);
     let value = json(&rt, rt.alloc(), longer.as_str());
-    assert!(rt; nodes_of(rt.alloc(), &value, Limits::none()).is_ok());
-    assert!(rt; nodes_of(rt.alloc(), &value, Limits { text: 201 }).is_ok());
+    assert!(&rt; nodes_of(rt.alloc(), &value, Limits::none()).is_ok());
+    assert!(&rt; nodes_of(rt.alloc(), &value, Limits { text: 201 }).is_ok());
 }
 
 /// A word of a refusal has at most 200 bytes too.
@@ -47,7 +47,7 @@ fn long_words_are_not_named(rt: HostRuntime) {
     let text = format!(in rt.alloc(); "[{{\"{word}\": 1}}]").expect(&rt, "memory");
     let came = nodes_as_text(&rt, rt.alloc(), text.as_str());
     let wanted = "/0 unknown-name: no node has this name";
-    assert_eq!(rt; came.as_str(), wanted);
+    assert_eq!(&rt; came.as_str(), wanted);
 }
 
 /// Numbers, and the refusals of those that are none from 0 to 4294967295.
@@ -82,7 +82,7 @@ fn whole_numbers_below_two_to_the_32(rt: HostRuntime) {
         let before = r#"[{"names": {"variable": ["author"], "et-al-min": "#;
         let text = format!(in rt.alloc(); "{before}{number}}}}}]").expect(&rt, "memory");
         let came = nodes_as_text(&rt, rt.alloc(), text.as_str());
-        assert_eq!(rt; came.as_str(), *wanted, "of {number}");
+        assert_eq!(&rt; came.as_str(), *wanted, "of {number}");
     }
 }
 
@@ -105,7 +105,7 @@ fn depth(list: &[LayoutRenderingElement]) -> usize {
 fn json_of_127_levels(rt: HostRuntime) {
     let deepest = groups(&rt, rt.alloc(), 43);
     let nodes = read_nodes(&rt, rt.alloc(), deepest.as_str()).expect(&rt, "nodes");
-    assert_eq!(rt; depth(nodes.as_slice()), 43);
+    assert_eq!(&rt; depth(nodes.as_slice()), 43);
     let deeper = format!(in rt.alloc(); "[{deepest}]").expect(&rt, "memory");
     let error = value_of_text(rt.alloc(), deeper.as_str()).err();
     let came = told(&rt, rt.alloc(), error.expect(&rt, "a refusal"));
@@ -115,17 +115,20 @@ fn json_of_127_levels(rt: HostRuntime) {
     );
 }
 
-/// A group with these children.
+/// An object with one member.
+fn object_of(rt: &impl Abort, alloc: Global, name: &str, inside: Value) -> Value {
+    let mut members: Map<String, Value> = Map::new(alloc);
+    let name = String::from_str(alloc, name).expect(rt, "memory");
+    let before: Result<Option<Value>, _> = members.insert(name, inside);
+    drop(before.expect(rt, "memory"));
+    Value::Object(members)
+}
+
+/// A list of one group with these children.
 fn group_of(rt: &impl Abort, alloc: Global, children: Value) -> Value {
-    let mut inside = Map::new(alloc);
-    let name = String::from_str(alloc, "children").expect(rt, "memory");
-    inside.insert(name, children).expect(rt, "memory");
-    let mut group = Map::new(alloc);
-    let name = String::from_str(alloc, "group").expect(rt, "memory");
-    group
-        .insert(name, Value::Object(inside))
-        .expect(rt, "memory");
-    Value::Array(alone(rt, alloc, Value::Object(group)))
+    let group = object_of(rt, alloc, "children", children);
+    let node = object_of(rt, alloc, "group", group);
+    Value::Array(alone(rt, alloc, node))
 }
 
 /// Values that no parser made may be deeper.
@@ -138,7 +141,7 @@ fn nodes_of_43_lists(rt: HostRuntime) {
     let came = told(&rt, rt.alloc(), error.expect(&rt, "a refusal"));
     let place = repeated(&rt, rt.alloc(), "/0/group/children", 43);
     let wanted = format!(in rt.alloc(); "{place} too-deep: the nodes are too deep");
-    assert_eq!(rt; came.as_str(), wanted.expect(&rt, "memory").as_str());
+    assert_eq!(&rt; came.as_str(), wanted.expect(&rt, "memory").as_str());
 }
 
 /// Many nodes beside each other are read in their order.
@@ -157,6 +160,6 @@ fn many_nodes(rt: HostRuntime) {
             matches!(node, LayoutRenderingElement::Group(_)),
         );
     }
-    assert_eq!(rt; kinds.len(), 2000);
-    assert_eq!(rt; kinds.iter().position(|is_group| *is_group), Some(1999));
+    assert_eq!(&rt; kinds.len(), 2000);
+    assert_eq!(&rt; kinds.iter().position(|is_group| *is_group), Some(1999));
 }
