@@ -109,7 +109,7 @@ fn json_of_127_levels(rt: HostRuntime) {
     let deeper = format!(in rt.alloc(); "[{deepest}]").expect(&rt, "memory");
     let error = value_of_text(rt.alloc(), deeper.as_str()).err();
     let came = told(&rt, rt.alloc(), error.expect(&rt, "a refusal"));
-    assert!(rt;
+    assert!(&rt;
         came.as_str()
             .starts_with(" not-json: no JSON of at most 127 levels")
     );
@@ -120,7 +120,7 @@ fn object_of(rt: &impl Abort, alloc: Global, name: &str, inside: Value) -> Value
     let mut members: Map<String, Value> = Map::new(alloc);
     let name = String::from_str(alloc, name).expect(rt, "memory");
     let before: Result<Option<Value>, _> = members.insert(name, inside);
-    drop(before.expect(rt, "memory"));
+    assert!(rt; before.is_ok());
     Value::Object(members)
 }
 
