@@ -6,6 +6,7 @@ use std::fmt::Debug;
 use std::process::Abort;
 
 /// A text that grows piece by piece.
+#[derive(Drop)]
 pub(crate) struct Description<'r, R: Abort> {
     rt: &'r R,
     alloc: Global,
@@ -32,13 +33,13 @@ impl<'r, R: Abort> Description<'r, R> {
     }
 
     /// Appends a space and a value.
-    pub(crate) fn value<T: Debug>(&mut self, value: T) {
+    pub(crate) fn value<T: Debug + Drop>(&mut self, value: T) {
         let text = format!(in self.alloc; " {value:?}").expect(self.rt, "memory");
         self.push(text.as_str());
     }
 
     /// Appends a name and its value, if there is one.
-    pub(crate) fn set<T: Debug>(&mut self, name: &str, value: Option<T>) {
+    pub(crate) fn set<T: Debug + Drop>(&mut self, name: &str, value: Option<T>) {
         if let Some(value) = value {
             let text = format!(in self.alloc; " {name}={value:?}").expect(self.rt, "memory");
             self.push(text.as_str());
