@@ -13,7 +13,7 @@ use std::fmt;
 /// A step from a value to one inside it.
 #[derive(Clone, Copy, Debug, PartialEq, Eq)]
 pub enum Step {
-    /// To the member of an object.
+    /// To the member of an object. Its name has no `~` and no `/`, which a JSON Pointer escapes.
     Member(&'static str),
     /// To the item of a list, from 0.
     Item(usize),
