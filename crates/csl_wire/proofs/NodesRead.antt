@@ -1,5 +1,5 @@
 -- Nodes that were read, by the facts of their parts.
-use Rattle.std.proofs.Common.{◌≡◌, ◌≤◌, refl, sym, ap, subst, ◌∙◌, ℕ, ◌+◌, suc, List, ◌∷◌, length, take, take_all, map, Option, Some, option_map, option_and_then, codes, arith}
+use Rattle.std.proofs.Common.{◌≡◌, ◌≤◌, refl, sym, ap, subst, ◌∙◌, ℕ, ◌+◌, suc, List, length, take, take_all, map, Option, Some, option_map, option_and_then, codes, arith}
 use Rattle.std.specs.Prelude.{Bool, Vec, String}
 use Rattle.std.specs.declared.alloc.Global.{Global}
 use Rattle.std.specs.List.{AllZip}
@@ -47,7 +47,7 @@ use Rattle.csl_wire.specs.Leaves.{AreNamed, AreNamedIf, IsLabel, IsText, read_dr
 use Rattle.csl_wire.specs.Named.{date_variable_has, kind_has, locator_has, name_variable_has, variable_has}
 use Rattle.csl_wire.specs.Names.{AreOptions, IsName}
 use Rattle.csl_wire.specs.Parts.{read_label, read_name_part}
-use Rattle.csl_wire.specs.Nodes.{AreNodes, AreNodesIn, has_position, IsBranch, IsChild, IsChildOf, IsNode, IsNodeOf, IsTextNode, read_element, read_match}
+use Rattle.csl_wire.specs.Nodes.{AreNodes, AreNodesIn, has_position, IsBranch, IsChild, IsChildOf, IsNode, IsNodeOf, read_element, read_match}
 use Rattle.csl_wire.specs.Reading.{read_items, read_list, read_member}
 use Rattle.csl_wire.specs.Styles.{IsLayout}
 

@@ -1,6 +1,6 @@
 -- What is read of the attributes that many elements have (CSL 1.0.2, Formatting, Affixes, Display):
 -- each from the member of its name.
-use Rattle.std.specs.Prelude.{◌≡◌, ℕ, List, Option, Some, None, map, option_map, option_and_then, codes}
+use Rattle.std.specs.Prelude.{ℕ, List, Option, map, option_map, option_and_then, codes}
 use Rattle.serde_json.specs.Data.{Data}
 use Rattle.serde_json.specs.Find.{as_str}
 use Rattle.csl_elements.specs.declared.formatting.Formatting.{Formatting}

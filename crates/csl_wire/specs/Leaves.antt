@@ -10,7 +10,6 @@ use Rattle.csl_common.specs.declared.form.LongShortForm.TheVariants.{Long as Lon
 use Rattle.csl_common.specs.declared.form.NumberForm.{NumberForm}
 use Rattle.csl_common.specs.declared.form.NumberForm.TheVariants.{Numeric}
 use Rattle.csl_elements.specs.declared.date.DateForm.{DateForm}
-use Rattle.csl_elements.specs.declared.date.DateParts.{DateParts}
 use Rattle.csl_elements.specs.declared.taxonomy.NumberOrPageVariable.{NumberOrPageVariable}
 use Rattle.csl_elements.specs.declared.taxonomy.Variable.{Variable}
 use Rattle.csl_elements.specs.declared.term.Term.{Term}

@@ -2,7 +2,7 @@
 -- member: the name of its element, with its attributes. `AreNodes left` says so of a list of values
 -- and a list of nodes, with at most `left` lists in one another; what it says of one node is by what
 -- it says of the lists inside (`P`).
-use Rattle.std.specs.Prelude.{◌≡◌, ℕ, zero, suc, List, [], ◌∷◌, length, Bool, false, Option, Some, None, option_map, unwrap_or, map, codes}
+use Rattle.std.specs.Prelude.{◌≡◌, ℕ, zero, suc, List, [], ◌∷◌, length, false, Option, Some, None, option_map, unwrap_or, map, codes}
 use Rattle.std.specs.List.{AllZip}
 use Rattle.serde_json.specs.Data.{Data, Members, no_members, member as a_member}
 use Rattle.serde_json.specs.Find.{as_bool, as_object, as_str}

@@ -1,6 +1,6 @@
 -- What is read of the parts of dates and names (CSL 1.0.2, Date-part, Name-part), and of labels of
 -- names (Label).
-use Rattle.std.specs.Prelude.{◌≡◌, ℕ, List, Option, Some, None, map, option_map, option_and_then, unwrap_or, codes}
+use Rattle.std.specs.Prelude.{ℕ, List, Option, map, option_map, option_and_then, unwrap_or, codes}
 use Rattle.serde_json.specs.Data.{Data}
 use Rattle.csl_elements.specs.declared.date.DatePartName.{DatePartName}
 use Rattle.csl_elements.specs.declared.date.DateAnyForm.{DateAnyForm}

@@ -4,7 +4,7 @@
 -- - A choice is the value of the first pair that its word names (`read_choice`).
 -- - A number is a whole one from 0 to 4294967295.
 -- - A list is read if each of its items is (`all_some`).
-use Rattle.std.specs.Prelude.{◌≡◌, ℕ, ◌^◌, nat_lt, List, [], ◌∷◌, Bool, false, unwrap_or, Option, Some, None, is_some, map, option_map, option_and_then, cond, codes, bytes_eq}
+use Rattle.std.specs.Prelude.{ℕ, ◌^◌, nat_lt, List, [], ◌∷◌, Bool, false, unwrap_or, Option, Some, None, is_some, option_map, option_and_then, cond, bytes_eq}
 use Rattle.std.specs.Borrow.{Bor}
 use Rattle.serde_json.specs.Data.{Data, Items, no_items, item}
 use Rattle.serde_json.specs.Find.{get, as_null, as_str, as_bool, as_number, as_u64, as_array}
