@@ -233,7 +233,8 @@ impl<'v> Form<'v> {
         Ok(Form { reader, value })
     }
 
-    /// The object that a value is. Each of its members has a name in one of the lists.
+    /// The object that a value is. Each of its members that is not `null` has a name in one of the
+    /// lists.
     pub(crate) fn of(
         reader: Reader,
         value: &'v Value,
@@ -242,8 +243,8 @@ impl<'v> Form<'v> {
         ensures { IfOk result (λ form. form.value.now ≡ value.now) }
     {
         let members = members_of(reader, value)?;
-        for name in members.keys() {
-            if !is_among(known, name.as_str()) {
+        for (name, inside) in members.iter() {
+            if !inside.is_null() && !is_among(known, name.as_str()) {
                 return Err(unknown_among(
                     reader.alloc,
                     Code::UnknownMember,

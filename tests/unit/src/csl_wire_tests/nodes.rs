@@ -222,9 +222,9 @@ fn groups_and_choices(rt: HostRuntime) {
     assert_rows(&rt, rt.alloc(), rows);
 }
 
-/// A member that is `null` is absent. Of members of one name the last counts. The order of members is
-/// free, and so is white space.
-static MEMBERS: [(&str, &str); 4] = [
+/// A member that is `null` is absent, whatever its name. Of members of one name the last counts. The
+/// order of members is free, and so is white space.
+static MEMBERS: [(&str, &str); 5] = [
     (
         r#"[{"text": {"variable": "title", "term": null, "form": null, "quotes": null, "prefix": null}}]"#,
         "[(text variable=Standard(Title) Long)]",
@@ -233,6 +233,7 @@ static MEMBERS: [(&str, &str); 4] = [
         r#"[{"group": {"children": null, "delimiter": null}}]"#,
         "[(group [])]",
     ),
+    (r#"[{"group": {"quotes": null, "": null}}]"#, "[(group [])]"),
     (
         r#"[{"text": {"value": "a", "value": "b", "prefix": 7, "prefix": "("}}]"#,
         r#"[(text value="b" prefix="(")]"#,
