@@ -1,7 +1,7 @@
 -- Which macros, layouts and settings JSON objects are read as (CSL 1.0.2, Style Structure): each
 -- attribute from the member of its name. One that is absent has its default: particles that are
 -- demoted in display and sorting, and hyphens with initials.
-use Rattle.std.specs.Prelude.{◌≡◌, ⊤, ℕ, List, Bool, true, Option, Some, None, map, option_map, unwrap_or, codes}
+use Rattle.std.specs.Prelude.{◌≡◌, ℕ, List, Bool, true, Option, Some, None, map, option_map, unwrap_or, codes}
 use Rattle.std.specs.List.{AllZip}
 use Rattle.serde_json.specs.Data.{Data}
 use Rattle.serde_json.specs.Find.{as_bool, as_str}
@@ -11,9 +11,9 @@ use Rattle.csl_elements.specs.NamesParts.{no_formatting}
 use Rattle.csl_elements.specs.declared.element.CslMacro.{CslMacro}
 use Rattle.csl_elements.specs.declared.element.Layout.{Layout}
 use Rattle.csl_elements.specs.View.{Definition, definitions, view_layout}
-use Rattle.csl_wire.specs.declared.styles.WithOptions.{WithOptions}
 use Rattle.csl_style.specs.declared.style.settings.DemoteNonDroppingParticle.{DemoteNonDroppingParticle}
 use Rattle.csl_style.specs.declared.style.settings.DemoteNonDroppingParticle.TheVariants.{DisplayAndSort}
+use Rattle.csl_style.specs.declared.style.settings.PageRangeFormat.{PageRangeFormat}
 use Rattle.csl_style.specs.declared.style.settings.StyleSettings.{StyleSettings}
 use Rattle.csl_wire.specs.Dressed.{read_formatting}
 use Rattle.csl_wire.specs.Names.{AreOptions}
@@ -57,24 +57,17 @@ abbrev read_hyphens : Data → Option Bool
 read_hyphens d = option_map (λ o. unwrap_or o true) (read_member as_bool (codes "initialize-with-hyphen") d)
 
 -- the settings, but the options of the layouts
-pub record AreSettings (d : Data) (s : StyleSettings) : Type 0 where
-  pub page_format : read_member (read_choice (map (pair_by lent) tables.PAGE_FORMATS)) (codes "page-range-format") d ≡ Some s.page_range_format
-  pub demotion : read_demotion d ≡ Some s.demote_non_dropping_particle
-  pub hyphens : read_hyphens d ≡ Some s.initialize_with_hyphen
-  pub names_ : AreLayoutOptions d (partial_options s.names)
+pub record AreSettings (d : Data) (format : Option PageRangeFormat) (demotion : DemoteNonDroppingParticle) (hyphens : Bool) (names : PartialOptions) : Type 0 where
+  pub format_ : read_member (read_choice (map (pair_by lent) tables.PAGE_FORMATS)) (codes "page-range-format") d ≡ Some format
+  pub demotion_ : read_demotion d ≡ Some demotion
+  pub hyphens_ : read_hyphens d ≡ Some hyphens
+  pub names_ : AreLayoutOptions d names
 
 -- what a style is read as, but its locales
 pub record IsStyle (d : Data) (settings : StyleSettings) (macros : List CslMacro) (citation : Layout) (bibliography : Option Layout) : Type 0 where
-  pub settings_ : AreSettings d settings
+  pub settings_ : AreSettings d settings.page_range_format settings.demote_non_dropping_particle settings.initialize_with_hyphen (partial_options settings.names)
   pub items : List Data
   pub are : read_list (codes "macros") d ≡ Some items
   pub macros_ : AllZip IsMacro items (definitions macros)
   pub citation_ : IsCitation (member (codes "citation") d) (view_layout citation) (partial_options settings.citation_names)
   pub bibliography_ : IsLayoutIf (member (codes "bibliography") d) (option_map view_layout bibliography) (partial_options settings.bibliography_names)
-
--- a layout that may be absent, as the code has it
-abbrev pub IsWithOptionsIf : Option Data → Option WithOptions → Type 0
-IsWithOptionsIf None None = ⊤
-IsWithOptionsIf None (Some w) = ⊥
-IsWithOptionsIf (Some d) None = ⊥
-IsWithOptionsIf (Some d) (Some w) = IsLayout d (view_layout w.layout) × AreLayoutOptions d (partial_options w.options)

@@ -1,11 +1,11 @@
 //! Styles: settings, macros, layouts and locales (CSL 1.0.2, Style Structure).
 
-ghost use Rattle.std.specs.Prelude.{◌≡◌, IfOk, map};
+ghost use Rattle.std.specs.Prelude.{IfOk, codes, map, option_map};
 ghost use Rattle.std.specs.List.{AllZip};
 ghost use Rattle.serde_json.specs.View.{view};
-ghost use Rattle.csl_elements.specs.NamesOptions.{no_options, partial_options};
+ghost use Rattle.csl_elements.specs.NamesOptions.{partial_options};
 ghost use Rattle.csl_elements.specs.View.{definition, definitions, view_layout};
-ghost use Rattle.csl_wire.specs.Styles.{AreLayoutOptions, AreSettings, IsLayout, IsMacro, IsStyle, IsWithOptionsIf};
+ghost use Rattle.csl_wire.specs.Styles.{AreLayoutOptions, AreSettings, IsCitation, IsLayout, IsLayoutIf, IsMacro, IsStyle};
 ghost use Rattle.csl_wire.specs.Reading.{member};
 
 use crate::choices::{DEMOTIONS, PAGE_FORMATS};
@@ -19,7 +19,7 @@ use crate::nodes::children_of;
 use crate::refusal::{Code, Step, WireError, within};
 use csl_elements::{CslMacro, InheritableNameOptions, Layout, Locale};
 use csl_languages::Language;
-use csl_style::{DemoteNonDroppingParticle, Style, StyleError, StyleSettings};
+use csl_style::{DemoteNonDroppingParticle, PageRangeFormat, Style, StyleError, StyleSettings};
 use serde_json::Value;
 use std::alloc::Global;
 
@@ -77,16 +77,46 @@ fn with_options(reader: Reader, value: &Value) -> Result<WithOptions, WireError>
     Ok(WithOptions { options, layout })
 }
 
-/// The layout of a member.
-fn layout_if(form: Form<'_>, name: &'static str) -> Result<Option<WithOptions>, WireError>
-    ensures { IfOk result (IsWithOptionsIf (member name.now (view form.entry.value.now))) }
+/// The citation. One that is absent is empty.
+fn citation_of(form: Form<'_>) -> Result<WithOptions, WireError>
+    ensures { IfOk result (λ w. IsCitation (member (codes "citation") (view form.entry.value.now))
+        (view_layout w.layout) (partial_options w.options)) }
 {
-    match form.member(name) {
+    match form.member("citation") {
+        Some(value) => within(Step::Member("citation"), with_options(form.reader, value)),
+        None => Ok(WithOptions {
+            options: InheritableNameOptions::default(),
+            layout: Layout::new(Vec::new(form.reader.alloc)),
+        }),
+    }
+}
+
+/// A layout that may be absent, with the options of names in it.
+#[derive(Drop)]
+struct LayoutIf {
+    options: InheritableNameOptions,
+    layout: Option<Layout>,
+}
+
+/// The bibliography.
+fn bibliography_of(form: Form<'_>) -> Result<LayoutIf, WireError>
+    ensures { IfOk result (λ b. IsLayoutIf (member (codes "bibliography")
+        (view form.entry.value.now)) (option_map view_layout b.layout)
+        (partial_options b.options)) }
+{
+    match form.member("bibliography") {
         Some(value) => {
-            let read = within(Step::Member(name), with_options(form.reader, value))?;
-            Ok(Some(read))
+            let read = with_options(form.reader, value);
+            let WithOptions { options, layout } = within(Step::Member("bibliography"), read)?;
+            Ok(LayoutIf {
+                options,
+                layout: Some(layout),
+            })
         }
-        None => Ok(None),
+        None => Ok(LayoutIf {
+            options: InheritableNameOptions::default(),
+            layout: None,
+        }),
     }
 }
 
@@ -128,19 +158,25 @@ fn locales(reader: Reader, items: &[Value]) -> Result<Vec<Locale>, WireError> {
 }
 
 /// The settings of a style, but the options of its layouts.
-fn settings(form: Form<'_>) -> Result<StyleSettings, WireError>
-    ensures settings { IfOk result (AreSettings (view form.entry.value.now)) }
-    ensures citation { IfOk result (λ s. partial_options s.citation_names ≡ no_options) }
-    ensures bibliography { IfOk result (λ s. partial_options s.bibliography_names ≡ no_options) }
+#[derive(Drop)]
+struct GlobalOptions {
+    page_range_format: Option<PageRangeFormat>,
+    demote_non_dropping_particle: DemoteNonDroppingParticle,
+    initialize_with_hyphen: bool,
+    names: InheritableNameOptions,
+}
+
+/// The settings of a style, but the options of its layouts (CSL 1.0.2, Global Options).
+fn global_options(form: Form<'_>) -> Result<GlobalOptions, WireError>
+    ensures { IfOk result (λ g. AreSettings (view form.entry.value.now) g.page_range_format
+        g.demote_non_dropping_particle g.initialize_with_hyphen (partial_options g.names)) }
 {
     let demotion = form.choice("demote-non-dropping-particle", &DEMOTIONS)?;
-    Ok(StyleSettings {
+    Ok(GlobalOptions {
         page_range_format: form.choice("page-range-format", &PAGE_FORMATS)?,
         demote_non_dropping_particle: demotion.unwrap_or(DemoteNonDroppingParticle::DisplayAndSort),
         initialize_with_hyphen: form.boolean("initialize-with-hyphen")?.unwrap_or(true),
         names: name_options(form, "name-form", "name-delimiter")?,
-        citation_names: InheritableNameOptions::default(),
-        bibliography_names: InheritableNameOptions::default(),
     })
 }
 
@@ -168,29 +204,37 @@ struct StyleParts {
 }
 
 /// The parts of a style.
+#[tactic(auto, using(crate::proofs::StylesRead::style_read))]
 fn parts_of(reader: Reader, value: &Value) -> Result<StyleParts, WireError>
     ensures { IfOk result (λ p. IsStyle (view value.now) p.settings p.macros.items p.citation
         p.bibliography) }
 {
     let form = Form::of(reader, value, &[&STYLE, &NAME_OPTIONS])?;
-    let mut settings = settings(form)?;
     let items = form.items("macros")?;
     let macros = within(Step::Member("macros"), macros(reader, items))?;
-    let items = form.items("locales")?;
-    let locales = within(Step::Member("locales"), locales(reader, items))?;
-    let citation = match layout_if(form, "citation")? {
-        Some(WithOptions { options, layout }) => {
-            settings.citation_names = options;
-            layout
-        }
-        None => Layout::new(Vec::new(reader.alloc)),
-    };
-    let bibliography = match layout_if(form, "bibliography")? {
-        Some(WithOptions { options, layout }) => {
-            settings.bibliography_names = options;
-            Some(layout)
-        }
-        None => None,
+    let tags = form.items("locales")?;
+    let locales = within(Step::Member("locales"), locales(reader, tags))?;
+    let WithOptions {
+        options: citation_names,
+        layout: citation,
+    } = citation_of(form)?;
+    let LayoutIf {
+        options: bibliography_names,
+        layout: bibliography,
+    } = bibliography_of(form)?;
+    let GlobalOptions {
+        page_range_format,
+        demote_non_dropping_particle,
+        initialize_with_hyphen,
+        names,
+    } = global_options(form)?;
+    let settings = StyleSettings {
+        page_range_format,
+        demote_non_dropping_particle,
+        initialize_with_hyphen,
+        names,
+        citation_names,
+        bibliography_names,
     };
     Ok(StyleParts {
         settings,
