@@ -1,0 +1,9 @@
+use Rattle.std.proofs.Common.{map, take}
+use Rattle.std.specs.List.{AllZip}
+use Rattle.serde_json.specs.View.{view}
+use Rattle.csl_wire.specs.Leaves.{IsWordOf}
+use Rattle.csl_wire.proofs.form.all_named.Given as goal
+
+-- the values so far are those of the words so far
+abbrev pub invariant-loop-place : goal.invariant-loop-place
+invariant-loop-place g l = AllZip (IsWordOf g.T.Named.is_named) (map view (take l.place l.words)) l.values.items

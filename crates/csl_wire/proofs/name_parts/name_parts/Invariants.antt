@@ -1,0 +1,9 @@
+use Rattle.std.proofs.Common.{◌≡◌, map, take, Some}
+use Rattle.serde_json.specs.View.{view}
+use Rattle.csl_elements.specs.Names.{view_part}
+use Rattle.csl_wire.specs.Parts.{read_name_part}
+use Rattle.csl_wire.proofs.name_parts.name_parts.Given as goal
+
+-- the parts so far are those of the items so far
+abbrev pub invariant-loop-place : goal.invariant-loop-place
+invariant-loop-place l = map read_name_part (map view (take l.place l.items)) ≡ map Some (map view_part l.parts.items)
