@@ -106,6 +106,7 @@ pub fn count(alloc: Global, name: &str, size: usize) -> Result<usize, WorkError>
         "long_initials" => limited::long_initials(alloc, size),
         "numbers_of_ranges" => limited::numbers_of_ranges(alloc, size),
         "labels_of_ranges" => asked::labels_of_ranges(alloc, size),
+        "labels_of_serials" => asked::labels_of_serials(alloc, size),
         "tests_of_ranges" => asked::tests_of_ranges(alloc, size),
         "ordinals_of_numbers" => limited::ordinals_of_numbers(alloc, size),
         _ => Err(WorkError::Unexpected("no such work")),
