@@ -10,25 +10,9 @@
 #![tactic(auto)]
 
 pub mod blank;
-pub mod children;
-pub mod citation_label;
-pub mod elem;
-pub mod entry;
-pub mod formatting;
-pub mod locale;
-pub mod maybe_typed;
-pub mod name_form;
-pub mod name_properties;
-pub mod number_result;
-pub mod numeric;
-pub mod page;
-pub mod person;
-pub mod quotes;
-pub mod rendered;
-pub mod select;
-pub mod source;
-pub mod stack;
+pub mod calls;
+pub mod cites;
+pub mod names;
 pub mod table;
-pub mod taxonomy;
-pub mod term;
-pub mod text;
+pub mod trees;
+pub mod values;

@@ -3,7 +3,7 @@
 use crate::assertions::{assert_of, assert_same, assert_text};
 use crate::csl_context_tests::setup::{Setup, assert_html, italic};
 use csl_context::{BodyDressing, RenderError};
-use csl_laws::quotes::push_quoted;
+use csl_laws::calls::push_quoted;
 use csl_style::{
     Affixes, DateVariable, Display, FontWeight, Formatting, GrammarGender, NameVariable,
     NumberVariable, PageVariable, StandardVariable, Term, Variable,

@@ -3,7 +3,7 @@
 use crate::assertions::{assert_of, assert_same};
 use csl_elements::NameVariable;
 use csl_entry::{DisambiguatedNameForm as Form, NameDisambiguationProperties};
-use csl_laws::name_properties::count_form;
+use csl_laws::calls::count_form;
 use std::alloc::Global;
 use std::process::Abort;
 use std::test::Fail;

@@ -1,7 +1,7 @@
 //! The nonempty stack.
 
 use crate::assertions::assert_same;
-use csl_laws::stack::{items_from, replace_last_odd};
+use csl_laws::calls::{items_from, replace_last_odd};
 use csl_tree::NonEmptyStack;
 use std::alloc::Global;
 use std::num::NonZeroUsize;

@@ -1,6 +1,0 @@
-use Rattle.std.proofs.Common.{sym, ◌∙◌}
-use Rattle.csl_elements.proofs.Terms.{term_decides}
-use Rattle.csl_laws.proofs.term.same_term.Goals as goal
-
-pub returns : goal.returns
-returns c = let d = term_decides c.args.a.now c.args.b.now in (λ t. d.0 (sym c.eq.ensures ∙ t), λ h. c.eq.ensures ∙ d.1 h)
