@@ -1,0 +1,5 @@
+pub mod Contents
+pub mod Counts
+pub mod Firsts
+pub mod Orders
+pub mod Works

@@ -1,0 +1,14 @@
+-- What the cites of a work print of the list: its number and its year suffix (CSL 1.0.2, Number
+-- Variables: citation-number; Disambiguation).
+use Rattle.std.specs.Prelude.{ℕ, Option, Some, None}
+use Rattle.csl_entry.specs.Cite.{CiteState, Disambiguation, no_disambiguation, by_year_suffix, first_cite}
+use Rattle.csl_entry.specs.Numbers.{citation_number}
+use Rattle.csl_list.specs.declared.identity.Identity.{Identity}
+
+abbrev pub disambiguation_of : Option ℕ → Disambiguation
+disambiguation_of None = no_disambiguation
+disambiguation_of (Some suffix) = by_year_suffix suffix
+
+-- a first cite of the work
+abbrev pub first_cite_of : Identity → CiteState
+first_cite_of identity = record (first_cite (disambiguation_of identity.year_suffix)) { citation_number = citation_number identity.number }

@@ -1,0 +1,19 @@
+-- The options of a style that sets none.
+use Rattle.std.specs.Prelude.{◌≡◌, [], false, None, string_bytes}
+use Rattle.csl_list.specs.declared.options.BibliographyOptions.{BibliographyOptions}
+use Rattle.csl_list.specs.declared.options.CitationOptions.{CitationOptions}
+
+abbrev pub HasNoTexts : CitationOptions → Type 0
+HasNoTexts o = (string_bytes o.prefix ≡ []) × (string_bytes o.suffix ≡ []) × (string_bytes o.delimiter ≡ [])
+
+-- a space of one line between two works
+abbrev pub HasNoOptions : BibliographyOptions → Type 0
+HasNoOptions o =
+    (string_bytes o.prefix ≡ [])
+    × (string_bytes o.suffix ≡ [])
+    × (o.keys.items ≡ [])
+    × (o.hanging_indent ≡ false)
+    × (o.second_field_align ≡ None)
+    × (o.line_spacing ≡ 1)
+    × (o.entry_spacing ≡ 1)
+    × (o.author_substitute ≡ None)

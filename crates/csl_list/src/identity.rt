@@ -1,0 +1,91 @@
+//! What the cites of a work print of the list: its number, and its year suffix (CSL 1.0.2, Number
+//! Variables: citation-number; Disambiguation).
+
+ghost use Rattle.std.specs.Prelude.{◌≡◌, None, IfOk, IfErr, length};
+ghost use Rattle.csl_entry.specs.Cite.{cite_state, disambiguation_of};
+ghost use Rattle.csl_entry.specs.Numbers.{citation_number};
+ghost use Rattle.csl_list.specs.declared.error.ListError.TheVariants as errors;
+ghost use Rattle.csl_list.specs.Errors.{IsListingError};
+ghost use Rattle.csl_list.specs.Identity as spec;
+
+use crate::error::ListError;
+use csl_entry::{CitationNumber, CiteProperties, DisambiguateState, SpeculativeCiteProperties};
+use std::alloc::Global;
+
+/// The number of a work, and its year suffix, if it has one.
+#[derive(Clone, Copy)]
+pub(crate) struct Identity {
+    pub number: CitationNumber,
+    pub year_suffix: Option<u16>,
+}
+
+/// How cites of a work are told apart from those of others.
+fn disambiguation_of(identity: Identity) -> DisambiguateState
+    ensures { disambiguation_of result ≡ spec.disambiguation_of identity.year_suffix }
+{
+    match identity.year_suffix {
+        Some(suffix) => DisambiguateState::YearSuffix(suffix),
+        None => DisambiguateState::None,
+    }
+}
+
+impl Identity {
+    /// A work with this number that nothing needs to tell apart.
+    pub fn numbered(number: CitationNumber) -> Identity
+        ensures number { result.number ≡ number }
+        ensures suffix { result.year_suffix ≡ None }
+    {
+        Identity {
+            number,
+            year_suffix: None,
+        }
+    }
+
+    /// The properties of a first cite of the work.
+    pub fn first_cite<'d>(self) -> CiteProperties<'d>
+        ensures { cite_state result ≡ spec.first_cite_of self }
+    {
+        let first = CiteProperties::first(disambiguation_of(self));
+        CiteProperties {
+            certain: first.certain,
+            speculative: SpeculativeCiteProperties {
+                citation_number: self.number,
+                ..first.speculative
+            },
+        }
+    }
+}
+
+/// The number of the work at a place of the list.
+pub(crate) fn number_at(place: usize) -> Result<CitationNumber, ListError>
+    ensures ok { IfOk result (λ number. citation_number number ≡ place) }
+    ensures err { IfErr result (λ e. e ≡ errors.TooManyWorks) }
+{
+    let number = u32::try_from(place).ok().and_then(CitationNumber::new);
+    number.ok_or(ListError::TooManyWorks)
+}
+
+/// The identity of each work by its place in the list. A work that is not listed has that of the
+/// first place.
+pub(crate) fn identities_by(
+    alloc: Global,
+    order: &[usize],
+    suffixes: &[Option<u16>],
+    works: usize,
+) -> Result<Vec<Identity>, ListError>
+    ensures ok { IfOk result (λ identities. length identities.items ≡ works) }
+    ensures err { IfErr result IsListingError }
+{
+    let mut identities = vec![in alloc; Identity::numbered(number_at(0)?); works]?;
+    for (place, work) in order.iter().enumerate() {
+        let number = number_at(place)?;
+        let year_suffix = suffixes.get(place).copied().flatten();
+        if let Some(own) = identities.get_mut(*work) {
+            *own = Identity {
+                number,
+                year_suffix,
+            };
+        }
+    }
+    Ok(identities)
+}

@@ -1,0 +1,164 @@
+//! The options of a style for the citations and the bibliography of a document (CSL 1.0.2,
+//! Citation-specific Options; Bibliography-specific Options; Layout; Sorting).
+
+ghost use Rattle.std.specs.Prelude.{◌≡◌, [], false};
+ghost use Rattle.csl_list.specs.Options.{HasNoTexts, HasNoOptions};
+
+use csl_elements::Variable;
+use std::alloc::Global;
+
+/// The source of a sort key's text (CSL 1.0.2, Sorting: `macro`, `variable`).
+#[derive(Drop)]
+pub enum KeySource {
+    /// The macro of this name.
+    Macro(String),
+    /// A variable.
+    Variable(Variable),
+}
+
+/// A key that works or cites are sorted by (CSL 1.0.2, Sorting).
+#[derive(Drop)]
+pub struct SortKey {
+    /// The source of its text.
+    pub source: KeySource,
+    /// Whether it sorts downwards. A work without the text comes last in both directions.
+    pub is_descending: bool,
+}
+
+/// The options of citations (CSL 1.0.2, Citation-specific Options; Layout).
+#[derive(Drop)]
+pub struct CitationOptions {
+    /// The text before the cites of a citation.
+    pub prefix: String,
+    /// The text after the cites of a citation.
+    pub suffix: String,
+    /// The text between two cites.
+    pub delimiter: String,
+    /// The keys that the cites of a citation are sorted by. Without keys they stay as the author
+    /// wrote them.
+    pub keys: Vec<SortKey>,
+    /// The number of notes up to which an earlier note is near (near-note-distance).
+    pub near_note_distance: u32,
+    /// Whether works with equal first cites get year suffixes, in the order of the list
+    /// (disambiguate-add-year-suffix).
+    pub adds_year_suffix: bool,
+}
+
+/// The place of the first field of a work in the bibliography (CSL 1.0.2, second-field-align).
+#[derive(Clone, Copy, Debug, PartialEq, Eq, Hash)]
+pub enum SecondFieldAlign {
+    /// It stands in the margin.
+    Margin,
+    /// It stands before the other fields, which are aligned.
+    Flush,
+}
+
+/// The names that a substitute replaces (CSL 1.0.2, subsequent-author-substitute-rule).
+#[derive(Clone, Copy, Debug, PartialEq, Eq, Hash)]
+pub enum SubstituteRule {
+    /// If all names are those of the work before, one substitute replaces them.
+    CompleteAll,
+    /// If all names are those of the work before, a substitute replaces each.
+    CompleteEach,
+    /// A substitute replaces each of the first names that the work before has too.
+    PartialEach,
+    /// A substitute replaces the first name, if the work before has it too.
+    PartialFirst,
+}
+
+/// The text for names that the work before has too (CSL 1.0.2, subsequent-author-substitute).
+#[derive(Drop)]
+pub struct AuthorSubstitute {
+    /// The text. If it is empty, the names are left out.
+    pub text: String,
+    /// The names that it replaces.
+    pub rule: SubstituteRule,
+}
+
+/// The options of the bibliography (CSL 1.0.2, Bibliography-specific Options; Layout).
+#[derive(Drop)]
+pub struct BibliographyOptions {
+    /// The text before each work.
+    pub prefix: String,
+    /// The text after each work.
+    pub suffix: String,
+    /// The keys that the works are sorted by. Without keys they stand in the order in which they
+    /// are first cited.
+    pub keys: Vec<SortKey>,
+    /// Whether a work's second line and those after it are indented.
+    pub hanging_indent: bool,
+    /// Where the first field of a work stands, if it is apart from the others.
+    pub second_field_align: Option<SecondFieldAlign>,
+    /// The distance of lines, in lines.
+    pub line_spacing: u32,
+    /// The space between two works, in lines.
+    pub entry_spacing: u32,
+    /// The text for names that the work before has too, if the style has one.
+    pub author_substitute: Option<AuthorSubstitute>,
+}
+
+impl SortKey {
+    /// A key of this source, upwards.
+    fn upwards(source: KeySource) -> SortKey
+        ensures source { result.source ≡ source }
+        ensures direction { result.is_descending ≡ false }
+    {
+        SortKey {
+            source,
+            is_descending: false,
+        }
+    }
+
+    /// A key by the macro of this name, upwards.
+    pub fn by_macro(name: String) -> SortKey
+        ensures source { result.source ≡ KeySource.Macro name }
+        ensures direction { result.is_descending ≡ false }
+    {
+        SortKey::upwards(KeySource::Macro(name))
+    }
+
+    /// A key by a variable, upwards.
+    pub fn by_variable(variable: Variable) -> SortKey
+        ensures source { result.source ≡ KeySource.Variable variable }
+        ensures direction { result.is_descending ≡ false }
+    {
+        SortKey::upwards(KeySource::Variable(variable))
+    }
+}
+
+impl CitationOptions {
+    /// No texts, no keys and no year suffixes. A note is near up to a distance of 5, as CSL has it.
+    pub fn new(alloc: Global) -> CitationOptions
+        ensures texts { HasNoTexts result }
+        ensures keys { result.keys.items ≡ [] }
+        ensures distance { result.near_note_distance ≡ 5 }
+        ensures suffixes { result.adds_year_suffix ≡ false }
+    {
+        CitationOptions {
+            prefix: String::new(alloc),
+            suffix: String::new(alloc),
+            delimiter: String::new(alloc),
+            keys: Vec::new(alloc),
+            near_note_distance: 5,
+            adds_year_suffix: false,
+        }
+    }
+}
+
+impl BibliographyOptions {
+    /// No texts, no keys, no field apart, and a space of one line between two works, as CSL has it.
+    pub fn new(alloc: Global) -> BibliographyOptions
+        ensures { HasNoOptions result }
+    {
+        BibliographyOptions {
+            prefix: String::new(alloc),
+            suffix: String::new(alloc),
+            keys: Vec::new(alloc),
+            hanging_indent: false,
+            second_field_align: None,
+            line_spacing: 1,
+            entry_spacing: 1,
+            author_substitute: None,
+        }
+    }
+}
