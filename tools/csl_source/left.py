@@ -49,3 +49,9 @@ def lines(left: collections.Counter) -> list[str]:
             names = [*own][:MOST_NAMES] + [f"and {len(own) - MOST_NAMES} more"] * (len(own) > MOST_NAMES)
             found.append(f"{seen}: {places(sum(own.values()))} ({', '.join(names)})")
     return found
+
+
+def summary(left: collections.Counter) -> str:
+    """How much is left out, in a few words."""
+    names = [name for name, count in left.items() if count]
+    return f"{len(names)} {'thing' if len(names) == 1 else 'things'}, in {places(sum(left.values()))}"
