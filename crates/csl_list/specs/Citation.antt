@@ -33,7 +33,7 @@ state_of cite = record (first_cite_of cite.identity) {
   is_first = cite.position.is_first;
   is_near_note = cite.position.is_near_note;
   initial_index = cite.index;
-  locator = option_map locator_view cite.item.now.locator;
+  locator = option_map locator_view cite.locator;
   ibid = cite.position.ibid;
 }
 

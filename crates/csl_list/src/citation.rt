@@ -18,6 +18,7 @@ use crate::error::ListError;
 use crate::identity::Identity;
 use crate::keys::printed_order;
 use crate::list_style::ListStyle;
+use crate::locator::{delimit_ranges, locator_with_marks, marked_locators, range_delimiter};
 use crate::options::CitationOptions;
 use crate::pieces::{push_entry, push_text, push_tree};
 use crate::position::{CitesSoFar, PlacedCite, Position};
@@ -26,7 +27,8 @@ use crate::request::{CitationItem, CitationRequest, CitePurpose};
 use csl::Renderer;
 use csl_common::Memory;
 use csl_entry::{
-    CertainCiteProperties, CiteProperties, EntryLike, SpecialForm, SpeculativeCiteProperties,
+    CertainCiteProperties, CiteProperties, EntryLike, SpecialForm, SpecificLocator,
+    SpeculativeCiteProperties,
 };
 use csl_finish::finish;
 use csl_tree::{ElemChildren, Formatting};
@@ -39,12 +41,14 @@ pub(crate) struct PositionedCite<'a, 'd, T> {
     pub work: &'a T,
     /// Its index in the citation, as the author wrote it.
     pub index: usize,
+    /// The locator that it is rendered with: between marks, if it is a range.
+    pub locator: Option<SpecificLocator<'a>>,
     pub position: Position,
     pub identity: Identity,
 }
 
 /// The properties of a cite.
-fn props_of<'d, T>(cite: &PositionedCite<'_, 'd, T>) -> CiteProperties<'d>
+fn props_of<'a, T>(cite: &PositionedCite<'a, '_, T>) -> CiteProperties<'a>
     ensures { cite_state result ≡ spec.state_of cite.now }
 {
     let (position, first) = (cite.position, cite.identity.first_cite());
@@ -56,7 +60,7 @@ fn props_of<'d, T>(cite: &PositionedCite<'_, 'd, T>) -> CiteProperties<'d>
             initial_idx: cite.index,
         },
         speculative: SpeculativeCiteProperties {
-            locator: cite.item.locator,
+            locator: cite.locator,
             ibid: position.ibid,
             ..first.speculative
         },
@@ -307,6 +311,7 @@ fn positioned_cites<'a, 'd, T>(
     order: &[usize],
     works: &'a [T],
     identities: &[Identity],
+    marked: &'a [Option<String>],
     so_far: &mut CitesSoFar<'d>,
 ) -> Result<Vec<PositionedCite<'a, 'd, T>>, Memory>
     requires order { ArePlaces request.now.items.items order.now }
@@ -326,6 +331,7 @@ fn positioned_cites<'a, 'd, T>(
                 item,
                 work: &works[item.work],
                 index: *index,
+                locator: locator_with_marks(item, marked.get(*index)),
                 position,
                 identity: identities[item.work],
             })?;
@@ -352,10 +358,12 @@ pub(crate) fn rendered_citation<'d, T: EntryLike>(
 {
     let options = style.citation();
     let order = cite_order(alloc, renderer, style, works, identities, &request.items)?;
-    let cites = positioned_cites(alloc, request, &order, works, identities, so_far)?;
+    let marked = marked_locators(alloc, &request.items)?;
+    let cites = positioned_cites(alloc, request, &order, works, identities, &marked, so_far)?;
     let links = links_of(alloc, options, &cites)?;
     let formatting = Formatting::default().apply(style.style().citation().formatting);
     let mut content = unfinished_citation(alloc, renderer, options, formatting, &links, &cites)?;
+    delimit_ranges(alloc, &mut content, range_delimiter(style.style()))?;
     finish(alloc, style.style(), &mut content)?;
     Ok(RenderedCitation {
         note_number: request.note_number,

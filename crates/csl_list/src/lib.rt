@@ -19,6 +19,7 @@ mod keys;
 mod likeness;
 mod list_style;
 mod listed;
+mod locator;
 mod options;
 mod pieces;
 mod position;

@@ -3,5 +3,6 @@
 mod collapse;
 mod documents;
 mod lists;
+mod locators;
 mod refusals;
 mod styles;
