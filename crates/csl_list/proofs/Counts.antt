@@ -9,6 +9,9 @@ range_more n =
     sym (map-id (range_with_len 0 (n + 1))) ∙ map-range_with_len_more (λ w. w) 0 n n (omega arith)
     ∙ ap (λ ws. ws ++ n ∷ []) (map-id (range_with_len 0 n))
 
+pub mapped_more : {X : Type 0} (f : ℕ → X) (n : ℕ) → map f (range_with_len 0 (n + 1)) ≡ map f (range_with_len 0 n) ++ f n ∷ []
+mapped_more f n = map-range_with_len_more f 0 n n (omega arith)
+
 module _ {X : Type 0} (f : X → ℕ) where
   map_more : (xs : List X) (x : X) → map f (xs ++ x ∷ []) ≡ map f xs ++ f x ∷ []
   map_more [] x = refl

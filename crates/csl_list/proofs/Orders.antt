@@ -3,7 +3,7 @@ use Rattle.std.proofs.Common.{◌≡◌, ◌<◌, ℕ, List, get_or, map, length
 use Rattle.std.specs.List.{All, range_with_len}
 use Rattle.std.specs.List.Sorted.{IsPermutation}
 use Rattle.std.proofs.lemmas.List.FromFn.{fill_by_all, get_or-range_with_len, length-range_with_len}
-use Rattle.std.proofs.lemmas.List.Sorted.{All-permutation, IsPermutation-map}
+use Rattle.std.proofs.lemmas.List.Sorted.{All-permutation, IsPermutation-map, IsPermutation-trans}
 use Rattle.csl_finish.specs.Keys.{ArePlaces}
 
 pub range_below : (n : ℕ) → All (λ place. place < n) (range_with_len 0 n)
@@ -23,3 +23,6 @@ items_permuted items picked places h e =
     IsPermutation-map (λ place. get_or items place 0) (range_with_len 0 (length items)) places h in
     let whole : items ≡ map (λ place. get_or items place 0) (range_with_len 0 (length items)) = fill_by_all (λ place. get_or items place 0) items (length items) 0 refl (λ k i. refl) in
     subst (λ (ps : List ℕ). IsPermutation ps picked) (sym whole) (subst (λ (qs : List ℕ). IsPermutation (map (λ place. get_or items place 0) (range_with_len 0 (length items))) qs) (sym e) by_map)
+
+pub places_again : {K : Type 0} (items : List K) (order again : List ℕ) → ArePlaces items order → IsPermutation order again → ArePlaces items again
+places_again items order again h i = IsPermutation-trans (range_with_len 0 (length items)) order again h i

@@ -1,8 +1,8 @@
--- A citation before it is finished (CSL 1.0.2, Citation; Layout): its cites in a row, each that prints
--- anything between the texts of its author, with the delimiter between two. Each cite is an element
+-- A citation before it is finished (CSL 1.0.2, Citation; Layout): its printed cites in a row, each that
+-- prints anything between the texts of its author, with a delimiter before it if it is not the first. Each cite is an element
 -- with the index of its work. The texts of the style stand around them, unless the first cite shows
 -- its author, its year or its work alone. If its author stands in the text, this comes first.
-use Rattle.std.specs.Prelude.{ℕ, Bool, true, false, not, ◌&&◌, ◌∷◌, ◌++◌, List, [], Option, Some, None, codes, find, option_map, string_bytes, if◌then◌else◌}
+use Rattle.std.specs.Prelude.{ℕ, Bool, true, false, ◌&&◌, ◌+◌, ◌∷◌, ◌++◌, List, [], Option, Some, None, codes, option_map, slice_get, string_bytes, if◌then◌else◌}
 use Rattle.csl_entry.specs.Answers.{Answers}
 use Rattle.csl_entry.specs.Cite.{CiteState, locator_view}
 use Rattle.csl_entry.specs.Numbers.{note_number}
@@ -11,10 +11,16 @@ use Rattle.csl_tree.specs.Tokens.{Token, has_content, tokens}
 use Rattle.csl_tree.specs.declared.elem.ElemChildren.{ElemChildren}
 use Rattle.csl_tree.specs.Formatting.{default_formatting}
 use Rattle.csl_tree.specs.declared.formatting.Formatting.{Formatting}
-use Rattle.csl_list.specs.CiteContent.{cite_content}
+use Rattle.csl_entry.specs.declared.citation.cite.SpecialForm.TheVariants as forms
+use Rattle.csl_list.specs.CiteContent.{citation_content, cite_content}
+use Rattle.csl_list.specs.Collapse.{delimiter_text, joint_at}
 use Rattle.csl_list.specs.Identity.{first_cite_of}
 use Rattle.csl_list.specs.Pieces.{text_of, entry_around}
 use Rattle.csl_list.specs.declared.citation.PositionedCite.{PositionedCite}
+use Rattle.csl_list.specs.declared.collapse.CiteLink.{CiteLink}
+use Rattle.csl_list.specs.declared.collapse.CitePart.{CitePart}
+use Rattle.csl_list.specs.declared.collapse.CitePart.TheVariants as parts
+use Rattle.csl_list.specs.declared.collapse.Joint.{Joint}
 use Rattle.csl_list.specs.declared.options.CitationOptions.{CitationOptions}
 use Rattle.csl_list.specs.declared.request.CitationItem.{CitationItem}
 use Rattle.csl_list.specs.declared.request.CitePurpose.{CitePurpose}
@@ -27,13 +33,16 @@ state_of cite = record (first_cite_of cite.identity) {
   is_first = cite.position.is_first;
   is_near_note = cite.position.is_near_note;
   initial_index = cite.index;
-  locator = option_map locator_view cite.item.now.locator;
+  locator = option_map locator_view cite.locator;
   ibid = cite.position.ibid;
 }
 
--- a hidden cite prints nothing
-abbrev pub content_of : {T : Type 0} → (T → Answers) → StyleParts → PositionedCite T → List Token
-content_of answers style cite = if cite.item.now.hidden then [] else cite_content style (state_of cite) cite.item.now.purpose (answers cite.work.now)
+-- the part of a cite that its citation prints
+abbrev pub content_of : {T : Type 0} → (T → Answers) → StyleParts → CitePart → PositionedCite T → List Token
+content_of answers style parts.Whole cite = cite_content style (state_of cite) cite.item.now.purpose (answers cite.work.now)
+content_of answers style parts.WithoutNames cite = citation_content style (state_of cite) (Some forms.SuppressAuthor) (answers cite.work.now)
+content_of answers style parts.YearSuffix cite = citation_content style (state_of cite) (Some forms.OnlyYearSuffix) (answers cite.work.now)
+content_of answers style parts.Nothing cite = []
 
 abbrev pub affix_of : Option ElemChildren → List Token
 affix_of None = []
@@ -48,14 +57,16 @@ abbrev pub added_cite : List ℕ → Formatting → List Token → CitationItem 
 added_cite delimiter formatting before item cite =
     if has_content cite then delimiter_after delimiter formatting before ++ (affix_of item.prefix ++ (entry_around item.work cite ++ affix_of item.suffix)) else []
 
--- what is printed so far, with the cites in a row after it
-abbrev pub cites_after : {T : Type 0} → (T → Answers) → StyleParts → List ℕ → Formatting → List Token → List (PositionedCite T) → List Token
-cites_after answers style delimiter formatting before [] = before
-cites_after answers style delimiter formatting before (cite ∷ cites) =
-    cites_after answers style delimiter formatting (before ++ added_cite delimiter formatting before cite.item.now (content_of answers style cite)) cites
+-- a cite by its joint
+abbrev pub joined_cite : {T : Type 0} → (T → Answers) → StyleParts → CitationOptions → Formatting → Joint → List Token → PositionedCite T → List Token
+joined_cite answers style options formatting joint before cite =
+    before ++ added_cite (delimiter_text options joint.delimiter) formatting before cite.item.now (content_of answers style joint.part cite)
 
-abbrev pub is_shown : {T : Type 0} → PositionedCite T → Bool
-is_shown cite = not cite.item.now.hidden
+-- what is printed so far, with the cites in a row after it, of which the first has an index
+abbrev pub cites_after : {T : Type 0} → (T → Answers) → StyleParts → CitationOptions → Formatting → List CiteLink → ℕ → List Token → List (PositionedCite T) → List Token
+cites_after answers style options formatting links i before [] = before
+cites_after answers style options formatting links i before (cite ∷ cites) =
+    cites_after answers style options formatting links (i + 1) (joined_cite answers style options formatting (joint_at links i) before cite) cites
 
 abbrev pub has_affixes : Option CitePurpose → Bool
 has_affixes None = true
@@ -91,6 +102,6 @@ with_first answers style options formatting inside None = inside
 with_first answers style options formatting inside (Some first) =
     author_of answers style first ++ between_affixes options formatting first.item.now.purpose inside
 
-abbrev pub unfinished_citation : {T : Type 0} → (T → Answers) → StyleParts → CitationOptions → Formatting → List (PositionedCite T) → List Token
-unfinished_citation answers style options formatting cites =
-    with_first answers style options formatting (cites_after answers style (string_bytes options.delimiter) formatting [] cites) (find is_shown cites)
+abbrev pub unfinished_citation : {T : Type 0} → (T → Answers) → StyleParts → CitationOptions → Formatting → List CiteLink → List (PositionedCite T) → List Token
+unfinished_citation answers style options formatting links cites =
+    with_first answers style options formatting (cites_after answers style options formatting links 0 [] cites) (slice_get cites 0)

@@ -2,6 +2,7 @@
 pub mod Bibliography
 pub mod Citation
 pub mod CiteContent
+pub mod Collapse
 pub mod Driver
 pub mod Errors
 pub mod Identity

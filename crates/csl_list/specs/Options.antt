@@ -6,6 +6,14 @@ use Rattle.csl_list.specs.declared.options.CitationOptions.{CitationOptions}
 abbrev pub HasNoTexts : CitationOptions → Type 0
 HasNoTexts o = (string_bytes o.prefix ≡ []) × (string_bytes o.suffix ≡ []) × (string_bytes o.delimiter ≡ [])
 
+-- cites are neither shortened nor put together
+abbrev pub IsNotShortened : CitationOptions → Type 0
+IsNotShortened o =
+    (o.collapse ≡ None)
+    × (o.cite_group_delimiter ≡ None)
+    × (o.year_suffix_delimiter ≡ None)
+    × (o.after_collapse_delimiter ≡ None)
+
 -- a space of one line between two works
 abbrev pub HasNoOptions : BibliographyOptions → Type 0
 HasNoOptions o =

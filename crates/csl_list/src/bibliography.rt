@@ -198,7 +198,7 @@ pub(crate) fn items<T: EntryLike>(
         let (work, number) = (&works[*index], number_at(place)?);
         let identity = Identity {
             number,
-            year_suffix: identities[*index].year_suffix,
+            ..identities[*index]
         };
         let fields = unfinished_fields(
             alloc,

@@ -1,8 +1,8 @@
 //! A citation: its cites in a row, between the style's texts (CSL 1.0.2, Citation; Layout).
 //! Definitions: specs/Citation.antt.
 
-ghost use Rattle.std.specs.Prelude.{◌≡◌, ◌++◌, [], IfOk, IfErr, OnOk, length, option_copied};
-ghost use Rattle.std.specs.List.{find};
+ghost use Rattle.std.specs.Prelude.{◌≡◌, ◌<◌, ◌++◌, [], IfOk, IfErr, OnOk, length};
+ghost use Rattle.std.specs.List.{All};
 ghost use Rattle.csl_entry.specs.Cite.{cite_state};
 ghost use Rattle.csl_finish.specs.Keys.{ArePlaces};
 ghost use Rattle.csl_tree.specs.Tokens.{tokens};
@@ -10,11 +10,15 @@ ghost use Rattle.csl_list.specs.Errors.{IsListingError};
 ghost use Rattle.csl_list.specs.Citation as spec;
 ghost use Rattle.csl_list.specs.Listed.{AreWorksThere};
 
-use crate::cite::cite_content;
+use crate::cite::{citation_content, cite_content};
+use crate::collapse::{
+    CiteLink, CitePart, delimiter_text, grouped_order, is_grouping, joint_at, links_of,
+};
 use crate::error::ListError;
 use crate::identity::Identity;
 use crate::keys::printed_order;
 use crate::list_style::ListStyle;
+use crate::locator::{delimit_ranges, locator_with_marks, marked_locators, range_delimiter};
 use crate::options::CitationOptions;
 use crate::pieces::{push_entry, push_text, push_tree};
 use crate::position::{CitesSoFar, PlacedCite, Position};
@@ -22,24 +26,29 @@ use crate::rendered::RenderedCitation;
 use crate::request::{CitationItem, CitationRequest, CitePurpose};
 use csl::Renderer;
 use csl_common::Memory;
-use csl_entry::{CertainCiteProperties, CiteProperties, EntryLike, SpeculativeCiteProperties};
+use csl_entry::{
+    CertainCiteProperties, CiteProperties, EntryLike, SpecialForm, SpecificLocator,
+    SpeculativeCiteProperties,
+};
 use csl_finish::finish;
 use csl_tree::{ElemChildren, Formatting};
 use std::alloc::Global;
 
 /// A cite of a citation with what its rendering depends on.
 #[derive(Drop)]
-struct PositionedCite<'a, 'd, T> {
-    item: &'a CitationItem<'d>,
-    work: &'a T,
+pub(crate) struct PositionedCite<'a, 'd, T> {
+    pub item: &'a CitationItem<'d>,
+    pub work: &'a T,
     /// Its index in the citation, as the author wrote it.
-    index: usize,
-    position: Position,
-    identity: Identity,
+    pub index: usize,
+    /// The locator that it is rendered with: between marks, if it is a range.
+    pub locator: Option<SpecificLocator<'a>>,
+    pub position: Position,
+    pub identity: Identity,
 }
 
 /// The properties of a cite.
-fn props_of<'d, T>(cite: &PositionedCite<'_, 'd, T>) -> CiteProperties<'d>
+fn props_of<'a, T>(cite: &PositionedCite<'a, '_, T>) -> CiteProperties<'a>
     ensures { cite_state result ≡ spec.state_of cite.now }
 {
     let (position, first) = (cite.position, cite.identity.first_cite());
@@ -51,29 +60,38 @@ fn props_of<'d, T>(cite: &PositionedCite<'_, 'd, T>) -> CiteProperties<'d>
             initial_idx: cite.index,
         },
         speculative: SpeculativeCiteProperties {
-            locator: cite.item.locator,
+            locator: cite.locator,
             ibid: position.ibid,
             ..first.speculative
         },
     }
 }
 
-/// The content of a cite. It is empty if the cite is hidden.
+/// What a citation prints of a cite.
 fn content_of<T: EntryLike>(
     alloc: Global,
     renderer: &mut Renderer<'_>,
     cite: &PositionedCite<'_, '_, T>,
+    part: CitePart,
 ) -> Result<ElemChildren, ListError>
     ensures ok { IfOk result (λ content. tokens content
-        ≡ spec.content_of T.answers renderer.old.style cite.now) }
+        ≡ spec.content_of T.answers renderer.old.style part cite.now) }
     ensures style { renderer.new.style ≡ renderer.old.style }
     ensures err { IfErr result IsListingError }
 {
-    if cite.item.hidden {
-        return Ok(ElemChildren::new(alloc));
+    let (props, work) = (props_of(cite), cite.work);
+    match part {
+        CitePart::Whole => cite_content(alloc, renderer, work, &props, cite.item.purpose),
+        CitePart::WithoutNames => {
+            let form = Some(SpecialForm::SuppressAuthor);
+            citation_content(alloc, renderer, work, &props, form)
+        }
+        CitePart::YearSuffix => {
+            let form = Some(SpecialForm::OnlyYearSuffix);
+            citation_content(alloc, renderer, work, &props, form)
+        }
+        CitePart::Nothing => Ok(ElemChildren::new(alloc)),
     }
-    let props = props_of(cite);
-    cite_content(alloc, renderer, cite.work, &props, cite.item.purpose)
 }
 
 /// Adds a text of the author, if there is one.
@@ -133,39 +151,29 @@ fn push_cite(
     Ok(())
 }
 
-/// The cites of a citation in a row.
+/// The cites of a citation in a row, by their links.
 fn cites_in_a_row<T: EntryLike>(
     alloc: Global,
     renderer: &mut Renderer<'_>,
-    cites: &[PositionedCite<'_, '_, T>],
-    delimiter: &str,
+    options: &CitationOptions,
     formatting: Formatting,
+    links: &[CiteLink],
+    cites: &[PositionedCite<'_, '_, T>],
 ) -> Result<ElemChildren, ListError>
+    requires { length links.now ≡ length cites.now }
     ensures ok { IfOk result (λ content. tokens content ≡ spec.cites_after T.answers
-        renderer.old.style delimiter.now formatting [] cites.now) }
+        renderer.old.style options.now formatting links.now 0 [] cites.now) }
     ensures style { renderer.new.style ≡ renderer.old.style }
     ensures err { IfErr result IsListingError }
 {
     let mut content = ElemChildren::new(alloc);
-    for cite in cites {
-        let own = content_of(alloc, renderer, cite)?;
+    for (place, cite) in cites.iter().enumerate() {
+        let joint = joint_at(links, place);
+        let own = content_of(alloc, renderer, cite, joint.part)?;
+        let delimiter = delimiter_text(options, joint.delimiter);
         push_cite(alloc, &mut content, cite.item, own, delimiter, formatting)?;
     }
     Ok(content)
-}
-
-/// The first cite that is not hidden.
-fn first_shown<'a, 'd, T>(
-    cites: &'a [PositionedCite<'a, 'd, T>],
-) -> Option<&'a PositionedCite<'a, 'd, T>>
-    ensures { option_copied result ≡ find spec.is_shown cites.now }
-{
-    for cite in cites {
-        if !cite.item.hidden {
-            return Some(cite);
-        }
-    }
-    None
 }
 
 /// Whether the style's texts stand around cites of which the first has this purpose.
@@ -252,15 +260,16 @@ fn unfinished_citation<T: EntryLike>(
     renderer: &mut Renderer<'_>,
     options: &CitationOptions,
     formatting: Formatting,
+    links: &[CiteLink],
     cites: &[PositionedCite<'_, '_, T>],
 ) -> Result<ElemChildren, ListError>
+    requires { length links.now ≡ length cites.now }
     ensures ok { IfOk result (λ content. tokens content ≡ spec.unfinished_citation T.answers
-        renderer.old.style options.now formatting cites.now) }
+        renderer.old.style options.now formatting links.now cites.now) }
     ensures err { IfErr result IsListingError }
 {
-    let delimiter = options.delimiter.as_str();
-    let inside = cites_in_a_row(alloc, renderer, cites, delimiter, formatting)?;
-    let Some(first) = first_shown(cites) else {
+    let inside = cites_in_a_row(alloc, renderer, options, formatting, links, cites)?;
+    let Some(first) = cites.first() else {
         return Ok(inside);
     };
     let inside = between_affixes(alloc, options, formatting, first.item.purpose, inside)?;
@@ -269,7 +278,32 @@ fn unfinished_citation<T: EntryLike>(
     Ok(content)
 }
 
-/// The cites of a citation in this order, with their positions.
+/// The indices of the cites of a citation in the order in which they are printed: by their keys, and
+/// then those of the same names together, if the style has it so.
+fn cite_order<T: EntryLike>(
+    alloc: Global,
+    renderer: &mut Renderer<'_>,
+    style: &ListStyle,
+    works: &[T],
+    identities: &[Identity],
+    items: &[CitationItem<'_>],
+) -> Result<Vec<usize>, ListError>
+    requires works { All (λ item. item.work < length works.now) items.now }
+    requires identities { length identities.now ≡ length works.now }
+    ensures ok { IfOk result (λ order. ArePlaces items.now order.items) }
+    ensures err { IfErr result IsListingError }
+{
+    let keys = style.citation_keys();
+    let order = printed_order(alloc, renderer, keys, works, identities, items)?;
+    if !is_grouping(style.citation()) {
+        return Ok(order);
+    }
+    let order = grouped_order(alloc, items, &order, identities)?;
+    Ok(order)
+}
+
+/// The cites of a citation that are printed, in this order, with their positions. Hidden ones have
+/// a position too.
 #[tactic(auto, using(crate::proofs::Orders::places_within))]
 fn positioned_cites<'a, 'd, T>(
     alloc: Global,
@@ -277,6 +311,7 @@ fn positioned_cites<'a, 'd, T>(
     order: &[usize],
     works: &'a [T],
     identities: &[Identity],
+    marked: &'a [Option<String>],
     so_far: &mut CitesSoFar<'d>,
 ) -> Result<Vec<PositionedCite<'a, 'd, T>>, Memory>
     requires order { ArePlaces request.now.items.items order.now }
@@ -291,13 +326,16 @@ fn positioned_cites<'a, 'd, T>(
             locator: item.locator,
             note: request.note_number,
         });
-        cites.push(PositionedCite {
-            item,
-            work: &works[item.work],
-            index: *index,
-            position,
-            identity: identities[item.work],
-        })?;
+        if !item.hidden {
+            cites.push(PositionedCite {
+                item,
+                work: &works[item.work],
+                index: *index,
+                locator: locator_with_marks(item, marked.get(*index)),
+                position,
+                identity: identities[item.work],
+            })?;
+        }
     }
     so_far.end_citation(order.len());
     Ok(cites)
@@ -318,11 +356,14 @@ pub(crate) fn rendered_citation<'d, T: EntryLike>(
     ensures note { IfOk result (λ citation. citation.note_number ≡ request.now.note_number) }
     ensures err { IfErr result IsListingError }
 {
-    let (keys, options) = (style.citation_keys(), style.citation());
-    let order = printed_order(alloc, renderer, keys, works, identities, &request.items)?;
-    let cites = positioned_cites(alloc, request, &order, works, identities, so_far)?;
+    let options = style.citation();
+    let order = cite_order(alloc, renderer, style, works, identities, &request.items)?;
+    let marked = marked_locators(alloc, &request.items)?;
+    let cites = positioned_cites(alloc, request, &order, works, identities, &marked, so_far)?;
+    let links = links_of(alloc, options, &cites)?;
     let formatting = Formatting::default().apply(style.style().citation().formatting);
-    let mut content = unfinished_citation(alloc, renderer, options, formatting, &cites)?;
+    let mut content = unfinished_citation(alloc, renderer, options, formatting, &links, &cites)?;
+    delimit_ranges(alloc, &mut content, range_delimiter(style.style()))?;
     finish(alloc, style.style(), &mut content)?;
     Ok(RenderedCitation {
         note_number: request.note_number,

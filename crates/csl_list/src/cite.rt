@@ -28,7 +28,7 @@ fn form_of(purpose: CitePurpose) -> Option<SpecialForm>
 }
 
 /// The content of a cite in a form, or whole.
-fn citation_content<T: EntryLike>(
+pub(crate) fn citation_content<T: EntryLike>(
     alloc: Global,
     renderer: &mut Renderer<'_>,
     work: &T,

@@ -11,9 +11,11 @@ ghost use Rattle.csl_list.specs.Driver as spec;
 
 use crate::bibliography::items;
 use crate::citation::rendered_citation;
+use crate::collapse::is_grouping;
 use crate::error::ListError;
 use crate::identity::{Identity, identities_by};
 use crate::keys::{by_first_cites, by_keys};
+use crate::likeness::{cite_texts, likenesses};
 use crate::list_style::ListStyle;
 use crate::listed::{ListedWorks, check_works, cited_works, first_cites, listed_works};
 use crate::position::CitesSoFar;
@@ -89,12 +91,17 @@ fn identities<T: EntryLike>(
     ensures ok { IfOk result (λ identities. length identities.items ≡ length works.now) }
     ensures err { IfErr result IsListingError }
 {
-    let suffixes = if style.citation().adds_year_suffix {
-        year_suffixes(alloc, renderer, works, order)?
-    } else {
-        Vec::new(alloc)
-    };
-    identities_by(alloc, order, &suffixes, works.len())
+    let (options, count) = (style.citation(), works.len());
+    if !options.adds_year_suffix && !is_grouping(options) {
+        return identities_by(alloc, order, &[], &[], count);
+    }
+    let texts = cite_texts(alloc, renderer, works, order)?;
+    let likenesses = likenesses(alloc, &texts)?;
+    if !options.adds_year_suffix {
+        return identities_by(alloc, order, &[], &likenesses, count);
+    }
+    let suffixes = year_suffixes(alloc, &texts.cites)?;
+    identities_by(alloc, order, &suffixes, &likenesses, count)
 }
 
 /// The citations in the order in which they were asked for.

@@ -12,12 +12,28 @@ use crate::error::ListError;
 use csl_entry::{CitationNumber, CiteProperties, DisambiguateState, SpeculativeCiteProperties};
 use std::alloc::Global;
 
-/// The number of a work, and its year suffix, if it has one.
+/// The works of a list that the first cite of a work is like.
+#[derive(Clone, Copy)]
+pub(crate) struct Likeness {
+    /// The first place of the list whose work has the same names, if the work has names.
+    pub names: Option<usize>,
+    /// The first place of the list whose work has the same cite.
+    pub cite: usize,
+}
+
+/// The number of a work, its year suffix, if it has one, and the works that it is like.
 #[derive(Clone, Copy)]
 pub(crate) struct Identity {
     pub number: CitationNumber,
     pub year_suffix: Option<u16>,
+    pub likeness: Likeness,
 }
+
+/// A work that is like none.
+const UNLIKE: Likeness = Likeness {
+    names: None,
+    cite: 0,
+};
 
 /// How cites of a work are told apart from those of others.
 fn disambiguation_of(identity: Identity) -> DisambiguateState
@@ -38,6 +54,7 @@ impl Identity {
         Identity {
             number,
             year_suffix: None,
+            likeness: UNLIKE,
         }
     }
 
@@ -71,6 +88,7 @@ pub(crate) fn identities_by(
     alloc: Global,
     order: &[usize],
     suffixes: &[Option<u16>],
+    likenesses: &[Likeness],
     works: usize,
 ) -> Result<Vec<Identity>, ListError>
     ensures ok { IfOk result (λ identities. length identities.items ≡ works) }
@@ -80,10 +98,12 @@ pub(crate) fn identities_by(
     for (place, work) in order.iter().enumerate() {
         let number = number_at(place)?;
         let year_suffix = suffixes.get(place).copied().flatten();
+        let likeness = likenesses.get(place).copied().unwrap_or(UNLIKE);
         if let Some(own) = identities.get_mut(*work) {
             *own = Identity {
                 number,
                 year_suffix,
+                likeness,
             };
         }
     }

@@ -51,7 +51,11 @@ fn key_texts<T: EntryLike>(
 
 /// The items at these places, in their order.
 #[tactic(auto, using(crate::proofs::Orders::places_within, crate::proofs::Orders::items_permuted))]
-fn items_at(alloc: Global, items: &[usize], places: &[usize]) -> Result<Vec<usize>, Memory>
+pub(crate) fn items_at(
+    alloc: Global,
+    items: &[usize],
+    places: &[usize],
+) -> Result<Vec<usize>, Memory>
     requires { ArePlaces items.now places.now }
     ensures { IfOk result (λ picked. IsPermutation items.now picked.items) }
 {

@@ -10,12 +10,16 @@
 mod bibliography;
 mod citation;
 mod cite;
+mod collapse;
 mod driver;
+mod equal;
 mod error;
 mod identity;
 mod keys;
+mod likeness;
 mod list_style;
 mod listed;
+mod locator;
 mod options;
 mod pieces;
 mod position;
@@ -30,8 +34,8 @@ pub use error::ListError;
 pub use list_style::ListStyle;
 pub use listed::ListedWorks;
 pub use options::{
-    AuthorSubstitute, BibliographyOptions, CitationOptions, KeySource, SecondFieldAlign, SortKey,
-    SubstituteRule,
+    AuthorSubstitute, BibliographyOptions, CitationOptions, Collapse, KeySource, SecondFieldAlign,
+    SortKey, SubstituteRule,
 };
 pub use rendered::{BibliographyItem, RenderedBibliography, RenderedCitation, RenderedList};
 pub use request::{CitationItem, CitationRequest, CitePurpose, plain_affix};

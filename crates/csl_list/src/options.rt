@@ -1,8 +1,8 @@
 //! The options of a style for the citations and the bibliography of a document (CSL 1.0.2,
 //! Citation-specific Options; Bibliography-specific Options; Layout; Sorting).
 
-ghost use Rattle.std.specs.Prelude.{◌≡◌, [], false};
-ghost use Rattle.csl_list.specs.Options.{HasNoTexts, HasNoOptions};
+ghost use Rattle.std.specs.Prelude.{◌≡◌, [], false, None};
+ghost use Rattle.csl_list.specs.Options.{HasNoTexts, IsNotShortened, HasNoOptions};
 
 use csl_elements::Variable;
 use std::alloc::Global;
@@ -25,6 +25,23 @@ pub struct SortKey {
     pub is_descending: bool,
 }
 
+/// How cites in a row are shortened (CSL 1.0.2, Cite Collapsing: collapse). A cite with a text of its
+/// author between it and the cite before it, or with a purpose, is not.
+#[derive(Clone, Copy, Debug, PartialEq, Eq, Hash)]
+pub enum Collapse {
+    /// Of three cites or more whose numbers follow one another, the first and the last are printed.
+    /// None of them has a locator.
+    CitationNumber,
+    /// Of cites with the same names, the first prints them.
+    Year,
+    /// As `Year`. Of these, cites that have the same year too and no locators print their year
+    /// suffix alone, but for the first.
+    YearSuffix,
+    /// As `YearSuffix`. Of three suffixes or more that follow one another, the first and the last
+    /// are printed.
+    YearSuffixRanged,
+}
+
 /// The options of citations (CSL 1.0.2, Citation-specific Options; Layout).
 #[derive(Drop)]
 pub struct CitationOptions {
@@ -37,6 +54,15 @@ pub struct CitationOptions {
     /// The keys that the cites of a citation are sorted by. Without keys they stay as the author
     /// wrote them.
     pub keys: Vec<SortKey>,
+    /// How cites in a row are shortened, if they are (collapse).
+    pub collapse: Option<Collapse>,
+    /// The text between two cites of the same names (cite-group-delimiter), else a comma and a space.
+    /// With it such cites stand together, at the place of the first, even if they are not shortened.
+    pub cite_group_delimiter: Option<String>,
+    /// The text between two year suffixes of one year (year-suffix-delimiter), else the delimiter.
+    pub year_suffix_delimiter: Option<String>,
+    /// The text after cites that are shortened (after-collapse-delimiter), else the delimiter.
+    pub after_collapse_delimiter: Option<String>,
     /// The number of notes up to which an earlier note is near (near-note-distance).
     pub near_note_distance: u32,
     /// Whether works with equal first cites get year suffixes, in the order of the list
@@ -127,10 +153,12 @@ impl SortKey {
 }
 
 impl CitationOptions {
-    /// No texts, no keys and no year suffixes. A note is near up to a distance of 5, as CSL has it.
+    /// No texts, no keys, nothing shortened and no year suffixes. A note is near up to a distance of
+    /// 5, as CSL has it.
     pub fn new(alloc: Global) -> CitationOptions
         ensures texts { HasNoTexts result }
         ensures keys { result.keys.items ≡ [] }
+        ensures collapse { IsNotShortened result }
         ensures distance { result.near_note_distance ≡ 5 }
         ensures suffixes { result.adds_year_suffix ≡ false }
     {
@@ -139,6 +167,10 @@ impl CitationOptions {
             suffix: String::new(alloc),
             delimiter: String::new(alloc),
             keys: Vec::new(alloc),
+            collapse: None,
+            cite_group_delimiter: None,
+            year_suffix_delimiter: None,
+            after_collapse_delimiter: None,
             near_note_distance: 5,
             adds_year_suffix: false,
         }

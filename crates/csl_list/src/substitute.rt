@@ -14,7 +14,7 @@ pub(crate) struct NamesBefore {
 }
 
 /// The names that a content begins with, as one text. It is empty without names.
-fn whole_names(alloc: Global, content: &ElemChildren) -> Result<String, Memory> {
+pub(crate) fn whole_names(alloc: Global, content: &ElemChildren) -> Result<String, Memory> {
     match content.find_names() {
         Some(names) => Ok(names.children.to_text(alloc, BufWriteFormat::Plain)?),
         None => Ok(String::new(alloc)),

@@ -1,47 +1,14 @@
 //! Year suffixes of works with equal cites (CSL 1.0.2, Disambiguation:
 //! disambiguate-add-year-suffix).
 
-ghost use Rattle.std.specs.Prelude.{◌≡◌, ◌<◌, IfOk, IfErr, length};
-ghost use Rattle.std.specs.List.{All};
+ghost use Rattle.std.specs.Prelude.{◌≡◌, IfOk, IfErr};
 ghost use Rattle.csl_list.specs.Errors.{IsListingError};
 
 use crate::error::ListError;
-use crate::identity::{Identity, number_at};
-use csl::{Rendered, Renderer};
+use crate::likeness::text_keys;
 use csl_common::Memory;
-use csl_entry::EntryLike;
 use csl_finish::order_of;
-use csl_tree::BufWriteFormat;
 use std::alloc::Global;
-
-/// The plain text of a first cite of each work of a list, in the order of the list.
-fn cite_texts<T: EntryLike>(
-    alloc: Global,
-    renderer: &mut Renderer<'_>,
-    works: &[T],
-    order: &[usize],
-) -> Result<Vec<String>, ListError>
-    requires { All (λ work. work < length works.now) order.now }
-    ensures len { IfOk result (λ texts. length texts.items ≡ length order.now) }
-    ensures err { IfErr result IsListingError }
-{
-    let mut texts = Vec::with_capacity(alloc, order.len())?;
-    for (place, work) in order.iter().enumerate() {
-        let props = Identity::numbered(number_at(place)?).first_cite();
-        let Rendered { content, state: _ } = renderer.cite(alloc, &works[*work], &props)?;
-        texts.push(content.to_text(alloc, BufWriteFormat::Plain)?)?;
-    }
-    Ok(texts)
-}
-
-/// The texts as keys that sort them.
-fn text_keys(alloc: Global, texts: &[String]) -> Result<Vec<&str>, Memory> {
-    let mut keys = Vec::with_capacity(alloc, texts.len())?;
-    for text in texts {
-        keys.push(text.as_str())?;
-    }
-    Ok(keys)
-}
 
 /// Whether the texts at two places are there, and equal.
 fn are_equal_at(texts: &[String], one: Option<&usize>, other: Option<&usize>) -> bool {
@@ -82,18 +49,12 @@ fn suffix_at(index: usize) -> Result<u16, ListError>
     u16::try_from(index).map_err(|_| ListError::TooManyWorks)
 }
 
-/// The year suffixes of the works of a list, in its order: `a`, `b`, .. for works with equal cites.
-pub(crate) fn year_suffixes<T: EntryLike>(
-    alloc: Global,
-    renderer: &mut Renderer<'_>,
-    works: &[T],
-    order: &[usize],
-) -> Result<Vec<Option<u16>>, ListError>
-    requires { All (λ work. work < length works.now) order.now }
+/// The year suffixes of the works of a list, in its order, by their first cites: `a`, `b`, .. for
+/// works with equal ones.
+pub(crate) fn year_suffixes(alloc: Global, cites: &[String]) -> Result<Vec<Option<u16>>, ListError>
     ensures err { IfErr result IsListingError }
 {
-    let texts = cite_texts(alloc, renderer, works, order)?;
-    let indices = indices_among_equals(alloc, &texts)?;
+    let indices = indices_among_equals(alloc, cites)?;
     let mut suffixes = Vec::with_capacity(alloc, indices.len())?;
     for index in indices {
         suffixes.push(match index {

@@ -1,6 +1,8 @@
 //! Tests of lists of whole documents. All expected values are written out by hand, from CSL.
 
+mod collapse;
 mod documents;
 mod lists;
+mod locators;
 mod refusals;
 mod styles;

@@ -141,6 +141,18 @@ fn push(rt: &impl Abort, alloc: Global, text: &mut String, content: &ElemChildre
     text.push_str(html.as_str()).expect(rt, "memory");
 }
 
+/// A citation of a list as HTML.
+pub(crate) fn citation_text(
+    rt: &impl Abort,
+    alloc: Global,
+    list: &RenderedList,
+    index: usize,
+) -> String {
+    let mut text = String::new(alloc);
+    push(rt, alloc, &mut text, &list.citations[index].content);
+    text
+}
+
 /// The citations of a list as HTML, a line each, and then its works.
 pub(crate) fn text_of(rt: &impl Abort, alloc: Global, list: &RenderedList) -> String {
     let mut text = String::new(alloc);

@@ -25,7 +25,7 @@ static WORKS: [&str; 5] = [
 ];
 
 /// Asserts the text of a list, whose lines are joined by slashes.
-fn assert_list(
+pub(crate) fn assert_list(
     rt: &impl Abort,
     alloc: Global,
     style: &ListStyle,

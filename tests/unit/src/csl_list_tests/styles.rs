@@ -3,9 +3,9 @@
 use crate::shared::{alone, put};
 use csl::style::{
     Affixes, Choose, ChooseBranch, ChooseMatch, CslMacro, Date, DatePart, DatePartName,
-    DateVariable, Group, InheritableNameOptions, Layout, LayoutRenderingElement, Name, NameAnd,
-    NameAsSortOrder, NameForm, NameVariable, Names, Number, NumberOrPageVariable, NumberVariable,
-    StandardVariable, StyleSettings, TestPosition, Text, Variable,
+    DateVariable, Group, InheritableNameOptions, Label, Layout, LayoutRenderingElement, Name,
+    NameAnd, NameAsSortOrder, NameForm, NameVariable, Names, Number, NumberOrPageVariable,
+    NumberVariable, StandardVariable, StyleSettings, TestPosition, Text, Variable,
 };
 use csl::{Style, english};
 use csl_list::{BibliographyOptions, CitationOptions, ListStyle, SortKey};
@@ -185,6 +185,19 @@ pub(crate) fn of_numbers(rt: &impl Abort, alloc: Global) -> Style {
     let cite = layout(rt, alloc, Number::new(variable).into());
     let settings = StyleSettings::default();
     Style::new(alloc, settings, Vec::new(alloc), cite, Some(work), locales).expect(rt, "a style")
+}
+
+/// `Doe pp. 3-5` in a cite.
+pub(crate) fn of_pages(rt: &impl Abort, alloc: Global) -> Style {
+    let variable = NumberOrPageVariable::Number(NumberVariable::Locator);
+    let cite = nodes(
+        rt,
+        alloc,
+        authors(rt, alloc, true),
+        Label::short(variable).into(),
+        Some(number(NumberVariable::Locator)),
+    );
+    style(rt, alloc, group(rt, alloc, " ", cite), None)
 }
 
 /// A branch at a position.

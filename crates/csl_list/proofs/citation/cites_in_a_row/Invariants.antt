@@ -4,8 +4,8 @@ use Rattle.csl_list.specs.Citation.{cites_after}
 use Rattle.csl_list.proofs.citation.cites_in_a_row.Given as goal
 
 -- what is printed so far, with the cites that are left after it, is the row
-abbrev pub invariant-loop-cite : goal.invariant-loop-cite
-invariant-loop-cite g l =
+abbrev pub invariant-loop-place : goal.invariant-loop-place
+invariant-loop-place g l =
     (l.renderer.style ≡ l.fn.renderer.style)
-    × (cites_after g.T.EntryLike.answers l.fn.renderer.style l.delimiter l.formatting (tokens l.content) (drop l.cite-index l.cites)
-    ≡ cites_after g.T.EntryLike.answers l.fn.renderer.style l.delimiter l.formatting [] l.cites)
+    × (cites_after g.T.EntryLike.answers l.fn.renderer.style l.options l.formatting l.links l.place (tokens l.content) (drop l.place l.cites)
+    ≡ cites_after g.T.EntryLike.answers l.fn.renderer.style l.options l.formatting l.links 0 [] l.cites)
