@@ -7,6 +7,7 @@ import shutil
 from typing import Any
 
 from csl_source import library
+from csl_source.cites import citations
 from csl_source.document import LARGE, Refused
 from csl_source.items import items as read_items
 from csl_source.page import rules
@@ -121,9 +122,33 @@ HOSTILE_BODY = """<h1>Numbers in brackets</h1>
 <h2>Cites</h2>
 <p><b>h&lt;</b>: [1]</p>
 <h2>References</h2>
-<div class="entry columns"><div>[1]</div><div>Ode, “A  evil &lt;script&gt; \u05d0”, P, 2014, \
+<div class="entry columns"><div>[1]</div><div>Ode, “A  evil &lt;script&gt; \u05d0,” P, 2014, \
 <a href="https://a.org/b">https://a.org/b</a>.</div></div>
 """
+# Cites of works `a` and `b`, each in the words of citeproc-js, and what the first sample style prints of them.
+CITES = [
+    ([{"id": "a"}], "(Ode, 2014)"),
+    ([{"id": "b", "prefix": "see ", "suffix": ", too"}, {"id": "a", "locator": 7}], "(Ode, 2014, p. 7; see Poe, 2015, too)"),
+    ([{"id": "a", "locator": "2", "label": "chapter"}], "(Ode, 2014, chap. 2)"),
+    ([{"id": "a", "locator": "x", "label": "sub verbo"}], "(Ode, 2014, s.v. x)"),
+    ([{"id": "a", "suppress-author": True}], "(2014)"),
+    ([{"id": "a", "author-only": 1}], "Ode"),
+    ({"citationItems": [{"id": "a"}, {"id": "b"}], "properties": {"noteIndex": 3, "mode": "composite"}},
+     "Ode (2014; Poe, 2015)"),
+    ({"citationItems": [{"id": "b"}]}, "(Poe, 2015)"),
+    ([{"id": "a", "prefix": "<i>cf.</i>\n"}], "(cf. Ode, 2014)"),
+    ([], ""),
+]
+# Citations with something wrong, and what is told of them.
+WRONG_CITES = [
+    ([{"id": "c"}], "there is no work `c`"),
+    ([{"locator": "7"}], 'a cite is an object with an `id`, as {"id": "kwan", "locator": "7"}'),
+    (["a"], 'a cite is an object with an `id`, as {"id": "kwan", "locator": "7"}'),
+    ([{"id": "a", "page": "7"}], "`page` is no part of a cite"),
+    ([{"id": "a", "locator": "7", "label": "shelf"}], "the label `shelf` is unknown"),
+    ({"properties": {}}, 'a citation is a list of cites, or an object with one in "citationItems"'),
+    ("a", 'a citation is a list of cites, or an object with one in "citationItems"'),
+]
 # Names of variables, each a megabyte long.
 LONG_NAMES = ["x" * 1_000_000 + str(it) for it in range(10)]
 # Styles in rows that cost the most, and what is told of them: macros that each call the next, or twice.
@@ -146,7 +171,7 @@ WORDS = [
     ([], "a style is missing"),
     (["a.csl", "b.json", "c"], "one word too many: c"),
     (["a.csl", "--colour"], "there is no option --colour"),
-    (["a.csl", "--sort=no"], "there is no option --sort=no"),
+    (["a.csl", "--list=no"], "there is no option --list=no"),
     (["a.csl", "--locale"], "--locale needs a word after it"),
     (["a.csl", "--html="], "--html needs a word after it"),
     (["a.rows", "--locale", "de-DE"], "--locale goes with a CSL file; rows have default-locale"),
@@ -188,9 +213,10 @@ class TrialTests:
         return [it.id for it in works], [it.removeprefix(path) for it in faults]
 
     def of_items(self, items: list[dict[str, Any]], *words: str) -> tuple[int, str, list[str]]:
-        """What is printed of these items, and what is told of the file."""
-        path = self.items(items)
-        status, text, faults = self.tried(f"{STYLES}/author_year.csl", path, *words)
+        """What is printed of these items, without year suffixes, and what is told of the file."""
+        path, style = self.items(items), read(f"{STYLES}/author_year.csl")
+        style = self.file("author_year.csl", style.replace('disambiguate-add-year-suffix="true"', ""))
+        status, text, faults = self.tried(style, path, *words)
         faults = [it.removeprefix(path) for it in faults if it.startswith(path)]
         return status, text.split("The first")[0], faults
 
@@ -241,7 +267,7 @@ class TrialTests:
     def faults(self, *words: str, **how: Any) -> tuple[int, str, list[str]]:
         """What the tool prints, and what it tells beside what is left out."""
         status, text, faults = self.tried(*words, **how)
-        left_out = re.compile(r": \d+ places? \(|`author` is missing")
+        left_out = re.compile(": left out: ")
         return status, text.split("The first")[0], [it for it in faults if not left_out.search(it)]
 
     def test_trial_words(self) -> None:
@@ -273,12 +299,41 @@ class TrialTests:
         works = [("Zuse", 1), ("Östlund", 2), ("Ødegård", 2), ("Oster", 2019), ("Oster", 2001), ("", 3)]
         items = [{**BOOK, "id": f"{name}{year}", "author": [{"family": name}] if name else [],
                   "issued": {"date-parts": [[year]]}, "title": ""} for name, year in works]
-        text = self.of_items(items, "--sort")[1]
         wanted = ["Ødegård2", "Oster2001", "Oster2019", "Östlund2", "Zuse1", "3"]
-        self.row("sorted works", re.findall(r"^(\S+)$", text, re.M), wanted)
-        path = self.file("unsorted.rows", "base (citation title)\n")
-        told = [f"{path}: it sorts nothing: the works are in their order"]
-        self.row("a style that sorts nothing", self.faults(path, "--sort")[::2], (0, told))
+        for words, found in ([], r"^(\S+)$"), (["--list"], r"^(\S+)\n  .*\n(?=\S|$)"):
+            text = self.of_items(items, *words)[1]
+            self.row(f"sorted works: {words}", re.findall(found, text, re.M), wanted)
+        path = self.file("none.rows", "base (citation title)\n")
+        self.row("a style without a bibliography", self.faults(path, "--list"), (0, "", []))
+
+    def test_cites(self) -> None:
+        """The citations of a document, and what is wrong with some."""
+        works = [{**BOOK, "id": "a"}, {**BOOK, "id": "b", "author": [{"family": "Poe"}], "issued": "2015"}]
+        words = [f"{STYLES}/author_year.csl", self.items(works), "--cites"]
+        path = self.file("cites.json", json.dumps([it for it, _ in CITES]))
+        status, text, faults = self.tried(*words, path)
+        cited, _, listed = text.partition("\n\n")
+        given = re.findall(r"^(?:[ab](?:, [ab])*)?\n((?:  .*)?)", cited, re.M)
+        self.row("cites", (status, [it.strip() for it in given], len(faults)), (0, [text for _, text in CITES], 1))
+        self.row("the list after cites", listed, "a\n  Ode (2014). T.\nb\n  Poe (2015). T.\n")
+        path = self.file("cites.json", json.dumps([it for it, _ in WRONG_CITES]))
+        told = [f"{path}: citation {place}: {why}" for place, (_, why) in enumerate(WRONG_CITES, 1)]
+        self.row("wrong cites", citations(path, {"a", "b"})[1], told)
+        status, text, faults = self.faults(*words, path)
+        self.row("wrong cites are told", (status, faults, text[-21:]), (1, told, "b\n  Poe (2015). T.\n"))
+        for content, why in ("{", "no JSON: Expecting property name enclosed in double quotes: line 1 column 2 (char 1)"), \
+                ("{}", 'no list of citations, as [[{"id": "kwan"}]]'):
+            path = self.file("cites.json", content)
+            self.row(f"the citations {content}", self.faults(*words, path), (1, "", [f"{path}: {why}"]))
+
+    def test_more(self) -> None:
+        """What is left out: one line, or each thing in its own."""
+        style = f"{STYLES}/bracketed.csl"
+        path = self.file("items.json", json.dumps([{**BOOK, "title": "<b>T</b>"}]))
+        told = self.tried(style, path)[2]
+        self.row("one line", told, [f"{style}: left out: 1 thing, in 1 place (--more says what)"])
+        told = self.tried(style, path, "--more")[2]
+        self.row("each thing", told, [f"{style}: markup inside of titles is dropped: 1 place (markup in texts)"])
 
     def test_page(self) -> None:
         """A web page: texts are escaped, and only web addresses are links."""
@@ -322,11 +377,8 @@ class TrialTests:
     def test_missing(self) -> None:
         """A macro and a term that are missing are told."""
         path = self.file("missing.rows", 'base (citation title (text macro=no) (text term=in))\n')
-        told = [f"{path}: the {it} is missing: it prints nothing" for it in ("macro `no`", "term `in`")]
+        told = [f"{path}: the {it} is missing: it prints nothing" for it in ("term `in`", "macro `no`")]
         self.row("what is missing", self.faults(path)[2], told)
-        path = self.file("doubled.rows", 'base (citation (group delimiter=. "a." "b  c...d   e"))\n')
-        told = [f"{path}: {it} are doubled where parts meet: 8 places" for it in ("periods", "spaces")]
-        self.row("what is doubled", self.faults(path)[2], told)
 
     def test_hostile_sizes(self) -> None:
         """Files that cost the most, each of which may cost five seconds of a core."""
@@ -341,7 +393,7 @@ class TrialTests:
         self.row("long names", self.cheap(style, path), (1, "", told))
         path = self.file("hostile.json", json.dumps([{**BOOK, "title": "x" * 5_000}]))
         rows = self.file("hostile.rows", f"base (citation {'title ' * 400})\n")
-        told = [f"{path}:1: b: it would write more than a million bytes"]
+        told = [f"{rows}: it would write too many bytes"]
         self.row("two million bytes", self.cheap(rows, path), (1, "", told))
         for base, why in COSTLY:
             path = self.file("hostile.rows", f"base {base}\n")
@@ -379,8 +431,8 @@ class TrialTests:
         self.row("many items are read", len(self.read(self.file("many.json", many))[0]), 20_000)
         path = self.file("many.json", json.dumps([{**BOOK, "id": it} for it in range(100)]))
         # (it takes three seconds of a core)
-        status, text, _ = self.tried(f"{STYLES}/author_year.csl", path, "--sort", seconds=20)
-        self.row("many items are printed", (status, text.count("\n  Ode (2014). T.")), (0, 100))
+        status, text, _ = self.tried(f"{STYLES}/author_year.csl", path, seconds=20)
+        self.row("many items are printed", (status, len(re.findall(r"\n  Ode \(2014\w+\)\. T\.", text))), (0, 100))
 
     def all_of_trials(self) -> None:
         """All of these tests."""
@@ -389,6 +441,8 @@ class TrialTests:
         self.test_item_files()
         self.test_locales()
         self.test_sorted()
+        self.test_cites()
+        self.test_more()
         self.test_page()
         self.test_hostile_page()
         self.test_hostile_items()

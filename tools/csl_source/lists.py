@@ -7,17 +7,18 @@ from csl_source.document import Node
 
 # The options that `csl_list` has, by the attributes of a citation and of a bibliography.
 OPTIONS = {
-    "citation": ("near-note-distance", "disambiguate-add-year-suffix"),
+    "citation": ("collapse", "cite-group-delimiter", "year-suffix-delimiter",
+                 "after-collapse-delimiter", "near-note-distance", "disambiguate-add-year-suffix"),
     "bibliography": ("hanging-indent", "second-field-align", "line-spacing", "entry-spacing",
                      "subsequent-author-substitute", "subsequent-author-substitute-rule"),
 }
 # Those that it has not.
 LEFT_OUT = {
     "citation": ("disambiguate-add-names", "disambiguate-add-givenname",
-                 "givenname-disambiguation-rule", "collapse", "cite-group-delimiter",
-                 "year-suffix-delimiter", "after-collapse-delimiter"),
+                 "givenname-disambiguation-rule"),
     "bibliography": (),
 }
+DELIMITERS = ("cite-group-delimiter", "year-suffix-delimiter", "after-collapse-delimiter")
 # The texts around a layout, as options. The bibliography has no delimiter.
 TEXTS = {"citation": ("prefix", "suffix", "delimiter"), "bibliography": ("prefix", "suffix")}
 Fields = list[tuple[str, Expression | None]]
@@ -37,7 +38,9 @@ def options(name: str, given: Attributes) -> Fields:
     """The options of a citation or of a bibliography. What `csl_list` has not is counted."""
     given.leave_out(*LEFT_OUT[name])
     if name == "citation":
-        return [("near_note_distance", given.number("near-note-distance")),
+        return [("collapse", some(given.variant("collapse", "Collapse"))),
+                *((name.replace("-", "_"), given.string(name)) for name in DELIMITERS),
+                ("near_note_distance", given.number("near-note-distance")),
                 ("adds_year_suffix", given.flag("disambiguate-add-year-suffix"))]
     return [("hanging_indent", given.flag("hanging-indent")),
             ("second_field_align", some(given.variant("second-field-align", "SecondFieldAlign"))),

@@ -97,6 +97,10 @@ fn citation_options(forms: &Forms<'_>) -> Result<CitationOptions, Fault> {
         options.prefix = text_of(own, "prefix")?;
         options.suffix = text_of(own, "suffix")?;
         options.delimiter = text_of(own, "delimiter")?;
+        options.collapse = own.choice("collapse")?;
+        options.cite_group_delimiter = own.text("cite-group-delimiter")?;
+        options.year_suffix_delimiter = own.text("year-suffix-delimiter")?;
+        options.after_collapse_delimiter = own.text("after-collapse-delimiter")?;
         let distance = own.number("near-note-distance")?;
         options.near_note_distance = distance.unwrap_or(options.near_note_distance);
         options.adds_year_suffix = own.is_true("disambiguate-add-year-suffix")?;

@@ -40,7 +40,7 @@ const MORE_BYTES: usize = 20_000;
 #[derive(Drop)]
 pub struct Items {
     alloc: Global,
-    style: Option<ListStyle>,
+    pub style: Option<ListStyle>,
     /// The works, and the number that names each.
     works: Vec<Work>,
     numbers: Vec<usize>,

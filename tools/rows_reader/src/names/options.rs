@@ -9,7 +9,7 @@ use csl::style::{
     NameAnd, NameAsSortOrder, NameForm, NamePartName, OrdinalMatch, PageRangeFormat, Scope,
     TermForm, TestPosition, TextDecoration, VerticalAlign,
 };
-use csl_list::{CitePurpose, ListedWorks, SecondFieldAlign, SubstituteRule};
+use csl_list::{CitePurpose, Collapse, ListedWorks, SecondFieldAlign, SubstituteRule};
 
 named! {
     LongShortForm { "long" Long, "short" Short }
@@ -66,6 +66,10 @@ named! {
         "suppress-author" SuppressAuthor
     }
     ListedWorks { "all" All, "cited" Cited }
+    Collapse {
+        "citation-number" CitationNumber, "year" Year, "year-suffix" YearSuffix,
+        "year-suffix-ranged" YearSuffixRanged
+    }
     SubstituteRule {
         "complete-all" CompleteAll, "complete-each" CompleteEach, "partial-each" PartialEach,
         "partial-first" PartialFirst
