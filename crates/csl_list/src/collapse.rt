@@ -54,6 +54,7 @@ pub(crate) enum Delimiter {
 #[derive(Clone, Copy)]
 pub(crate) enum CitePart {
     Whole,
+    Author,
     WithoutNames,
     YearSuffix,
     Nothing,
