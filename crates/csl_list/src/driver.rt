@@ -1,5 +1,4 @@
 //! The driver: from the citations of a document to its list (CSL 1.0.2, Citation; Bibliography).
-//! Definitions: specs/Driver.antt.
 
 ghost use Rattle.std.specs.Prelude.{◌≡◌, ◌<◌, ◌++◌, ◌∷◌, [], IfOk, IfErr, IfSome, OnOk, OnErr, length, map};
 ghost use Rattle.std.specs.List.Sorted.{IsPermutation};
@@ -98,7 +97,7 @@ fn identities<T: EntryLike>(
 }
 
 /// The citations in the order in which they were asked for.
-fn rendered_citations<T: EntryLike>(
+fn citations_of<T: EntryLike>(
     alloc: Global,
     renderer: &mut Renderer<'_>,
     style: &ListStyle,
@@ -131,7 +130,7 @@ fn rendered_citations<T: EntryLike>(
 }
 
 /// The bibliography of the works in this order, if the style and its options have one.
-fn rendered_bibliography<T: EntryLike>(
+fn bibliography_of<T: EntryLike>(
     alloc: Global,
     renderer: &mut Renderer<'_>,
     style: &ListStyle,
@@ -242,15 +241,8 @@ impl<'d> BibliographyDriver<'d> {
         let requests = self.requests.as_slice();
         let order = listed_order(alloc, &mut renderer, style, works, requests, listed)?;
         let identities = identities(alloc, &mut renderer, style, works, &order)?;
-        let citations = rendered_citations(
-            alloc,
-            &mut renderer,
-            style,
-            works,
-            &identities,
-            requests,
-        )?;
-        let bibliography = rendered_bibliography(
+        let citations = citations_of(alloc, &mut renderer, style, works, &identities, requests)?;
+        let bibliography = bibliography_of(
             alloc,
             &mut renderer,
             style,

@@ -1,5 +1,4 @@
 //! A style with its options for a document (CSL 1.0.2, Style Structure; Sorting).
-//! Definitions: specs/ListStyle.antt.
 
 ghost use Rattle.std.specs.List.{All};
 ghost use Rattle.std.specs.Prelude.{◌≡◌, IfOk, IfErr, OnOk, IsTrue, length, option_copied};
@@ -197,12 +196,14 @@ impl ListStyle {
         self.bibliography.as_ref()
     }
 
+    /// The keys of the citation as layouts.
     pub(crate) fn citation_keys(&self) -> &[KeyLayout]
         ensures { result.now ≡ spec.citation_keys self.now }
     {
         &self.citation_keys
     }
 
+    /// The keys of the bibliography as layouts.
     pub(crate) fn bibliography_keys(&self) -> &[KeyLayout]
         ensures { result.now ≡ spec.bibliography_keys self.now }
     {

@@ -1,5 +1,6 @@
 //! Year suffixes of works with equal cites (CSL 1.0.2, Disambiguation:
 //! disambiguate-add-year-suffix).
+//! Definitions: specs/Errors.antt.
 
 ghost use Rattle.std.specs.Prelude.{◌≡◌, ◌<◌, IfOk, IfErr, length};
 ghost use Rattle.std.specs.List.{All};
