@@ -2,5 +2,6 @@
 
 mod documents;
 mod lists;
+mod random;
 mod refusals;
 mod styles;
