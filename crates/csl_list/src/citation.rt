@@ -1,5 +1,4 @@
 //! A citation: its cites in a row, between the style's texts (CSL 1.0.2, Citation; Layout).
-//! Definitions: specs/Citation.antt.
 
 ghost use Rattle.std.specs.Prelude.{◌≡◌, ◌<◌, ◌++◌, [], IfOk, IfErr, OnOk, filter, length, map};
 ghost use Rattle.std.specs.List.{All};

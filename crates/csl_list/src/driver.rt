@@ -1,5 +1,4 @@
 //! The driver: from the citations of a document to its list (CSL 1.0.2, Citation; Bibliography).
-//! Definitions: specs/Driver.antt.
 
 ghost use Rattle.std.specs.Prelude.{◌≡◌, ◌<◌, ◌++◌, ◌∷◌, [], IfOk, IfErr, IfSome, OnOk, OnErr, length, map};
 ghost use Rattle.std.specs.List.Sorted.{IsPermutation};
@@ -103,7 +102,7 @@ fn identities<T: EntryLike>(
 }
 
 /// The citations in the order in which they were asked for.
-fn rendered_citations<T: EntryLike>(
+fn citations_of<T: EntryLike>(
     alloc: Global,
     renderer: &mut Renderer<'_>,
     style: &ListStyle,
@@ -138,7 +137,7 @@ fn rendered_citations<T: EntryLike>(
 }
 
 /// The bibliography of the works in this order, if the style and its options have one.
-fn rendered_bibliography<T: EntryLike>(
+fn bibliography_of<T: EntryLike>(
     alloc: Global,
     renderer: &mut Renderer<'_>,
     style: &ListStyle,
@@ -251,7 +250,7 @@ impl<'d> BibliographyDriver<'d> {
         let options = style.citation();
         let told = told_cites(alloc, &mut renderer, options, works, &order)?;
         let identities = identities(alloc, &mut renderer, style, works, &order, &told)?;
-        let citations = rendered_citations(
+        let citations = citations_of(
             alloc,
             &mut renderer,
             style,
@@ -260,7 +259,7 @@ impl<'d> BibliographyDriver<'d> {
             &told,
             requests,
         )?;
-        let bibliography = rendered_bibliography(
+        let bibliography = bibliography_of(
             alloc,
             &mut renderer,
             style,

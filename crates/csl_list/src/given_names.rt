@@ -1,12 +1,10 @@
 //! Names that are expanded wherever the document has them (CSL 1.0.2,
 //! givenname-disambiguation-rule: all rules but by-cite).
 
-ghost use Rattle.std.specs.Prelude.{◌≡◌, ◌<◌, IfOk, IfErr, length};
+ghost use Rattle.std.specs.Prelude.{◌≡◌, ◌<◌, IfOk, length};
 ghost use Rattle.std.specs.List.{All};
-ghost use Rattle.csl_list.specs.Errors.{IsListingError};
 
 use crate::equal::first_equals;
-use crate::error::ListError;
 use crate::told::ToldCite;
 use csl::literature::Person;
 use csl_common::Memory;

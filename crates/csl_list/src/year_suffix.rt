@@ -1,5 +1,6 @@
 //! Year suffixes of works with equal cites (CSL 1.0.2, Disambiguation:
 //! disambiguate-add-year-suffix).
+//! Definitions: specs/Errors.antt.
 
 ghost use Rattle.std.specs.Prelude.{◌≡◌, IfOk, IfErr};
 ghost use Rattle.csl_list.specs.Errors.{IsListingError};

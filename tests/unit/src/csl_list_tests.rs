@@ -5,5 +5,6 @@ mod disambiguation;
 mod documents;
 mod lists;
 mod locators;
+mod random;
 mod refusals;
 mod styles;
