@@ -1,5 +1,6 @@
 pub mod Contents
 pub mod Counts
 pub mod Firsts
+pub mod KeysWithin
 pub mod Orders
 pub mod Works

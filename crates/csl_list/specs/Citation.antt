@@ -2,7 +2,7 @@
 -- prints anything between the texts of its author, with a delimiter before it if it is not the first. Each cite is an element
 -- with the index of its work. The texts of the style stand around them, unless the first cite shows
 -- its author, its year or its work alone. If its author stands in the text, this comes first.
-use Rattle.std.specs.Prelude.{ℕ, Bool, true, false, ◌&&◌, ◌+◌, ◌∷◌, ◌++◌, List, [], Option, Some, None, codes, option_map, slice_get, string_bytes, if◌then◌else◌}
+use Rattle.std.specs.Prelude.{◌≡◌, ℕ, Bool, true, false, not, ◌&&◌, ◌+◌, ◌∷◌, ◌++◌, List, [], Option, Some, None, codes, is_none, option_map, slice_get, string_bytes, if◌then◌else◌}
 use Rattle.csl_entry.specs.Answers.{Answers}
 use Rattle.csl_entry.specs.Cite.{CiteState, locator_view}
 use Rattle.csl_entry.specs.Numbers.{note_number}
@@ -37,12 +37,21 @@ state_of cite = record (first_cite_of cite.identity) {
   ibid = cite.position.ibid;
 }
 
--- the part of a cite that its citation prints
+-- the forms of its names are those that the style itself gives
+abbrev pub HasOwnForms : {T : Type 0} → PositionedCite T → Type 0
+HasOwnForms cite = is_none cite.forms ≡ true
+
+-- a part of a cite in a state
+abbrev pub part_content : {T : Type 0} → (T → Answers) → StyleParts → CitePart → CiteState → PositionedCite T → List Token
+part_content answers style parts.Whole state cite = cite_content style state cite.item.now.purpose (answers cite.work.now)
+part_content answers style parts.Author state cite = cite_content style state (Some purposes.Author) (answers cite.work.now)
+part_content answers style parts.WithoutNames state cite = citation_content style state (Some forms.SuppressAuthor) (answers cite.work.now)
+part_content answers style parts.YearSuffix state cite = citation_content style state (Some forms.OnlyYearSuffix) (answers cite.work.now)
+part_content answers style parts.Nothing state cite = []
+
+-- a part of a cite that has the style's forms of names
 abbrev pub content_of : {T : Type 0} → (T → Answers) → StyleParts → CitePart → PositionedCite T → List Token
-content_of answers style parts.Whole cite = cite_content style (state_of cite) cite.item.now.purpose (answers cite.work.now)
-content_of answers style parts.WithoutNames cite = citation_content style (state_of cite) (Some forms.SuppressAuthor) (answers cite.work.now)
-content_of answers style parts.YearSuffix cite = citation_content style (state_of cite) (Some forms.OnlyYearSuffix) (answers cite.work.now)
-content_of answers style parts.Nothing cite = []
+content_of answers style part cite = part_content answers style part (state_of cite) cite
 
 abbrev pub affix_of : Option ElemChildren → List Token
 affix_of None = []
@@ -68,6 +77,14 @@ cites_after answers style options formatting links i before [] = before
 cites_after answers style options formatting links i before (cite ∷ cites) =
     cites_after answers style options formatting links (i + 1) (joined_cite answers style options formatting (joint_at links i) before cite) cites
 
+-- a cite is not hidden
+abbrev pub is_shown : Option CitationItem → Bool
+is_shown None = false
+is_shown (Some item) = not item.hidden
+
+abbrev pub is_shown_at : List CitationItem → ℕ → Bool
+is_shown_at items index = is_shown (slice_get items index)
+
 abbrev pub has_affixes : Option CitePurpose → Bool
 has_affixes None = true
 has_affixes (Some purposes.Author) = false
@@ -90,7 +107,7 @@ with_space author = if has_content author then author ++ text_of (codes " ") def
 -- the author of a cite whose author stands in the text
 abbrev pub author_of : {T : Type 0} → (T → Answers) → StyleParts → PositionedCite T → List Token
 author_of answers style cite =
-    if is_prose cite.item.now.purpose then with_space (cite_content style (state_of cite) (Some purposes.Author) (answers cite.work.now)) else []
+    if is_prose cite.item.now.purpose then with_space (content_of answers style parts.Author cite) else []
 
 -- the cites between the texts of the style, if the first of them wants these and they print anything
 abbrev pub between_affixes : CitationOptions → Formatting → Option CitePurpose → List Token → List Token

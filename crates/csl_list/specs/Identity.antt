@@ -1,14 +1,14 @@
--- What the cites of a work print of the list: its number and its year suffix (CSL 1.0.2, Number
--- Variables: citation-number; Disambiguation).
-use Rattle.std.specs.Prelude.{ℕ, Option, Some, None}
-use Rattle.csl_entry.specs.Cite.{CiteState, Disambiguation, no_disambiguation, by_year_suffix, first_cite}
+-- What the cites of a work print of the list: its number, and its year suffix or branches that test
+-- `disambiguate` (CSL 1.0.2, Number Variables: citation-number; Disambiguation).
+use Rattle.std.specs.Prelude.{ℕ, Bool, Option, Some, None, if◌then◌else◌}
+use Rattle.csl_entry.specs.Cite.{CiteState, Disambiguation, no_disambiguation, by_choose, by_year_suffix, first_cite}
 use Rattle.csl_entry.specs.Numbers.{citation_number}
 use Rattle.csl_list.specs.declared.identity.Identity.{Identity}
 
-abbrev pub disambiguation_of : Option ℕ → Disambiguation
-disambiguation_of None = no_disambiguation
-disambiguation_of (Some suffix) = by_year_suffix suffix
+abbrev pub disambiguation_of : Option ℕ → Bool → Disambiguation
+disambiguation_of None chooses = if chooses then by_choose else no_disambiguation
+disambiguation_of (Some suffix) chooses = by_year_suffix suffix
 
 -- a first cite of the work
 abbrev pub first_cite_of : Identity → CiteState
-first_cite_of identity = record (first_cite (disambiguation_of identity.year_suffix)) { citation_number = citation_number identity.number }
+first_cite_of identity = record (first_cite (disambiguation_of identity.year_suffix identity.chooses)) { citation_number = citation_number identity.number }

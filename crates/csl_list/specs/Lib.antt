@@ -12,3 +12,4 @@ pub mod Options
 pub mod Pieces
 pub mod Position
 pub mod Request
+pub mod Told

@@ -3,7 +3,7 @@
 use Rattle.std.specs.Prelude.{◌≡◌, ◌<◌, ⊤, ℕ, Bool, true, false, List, [], length, Option, Some, None, is_none, string_bytes}
 use Rattle.std.specs.List.{All, AllWithin, HoldsAt}
 use Rattle.csl_elements.specs.View.{Definition}
-use Rattle.csl_style.specs.AllWithin.{IsLayoutWithin}
+use Rattle.csl_style.specs.AllWithin.{IsAllWithin, IsLayoutWithin}
 use Rattle.csl_style.specs.Expansion.{macro_body}
 use Rattle.csl_style.specs.Style.{StyleParts}
 use Rattle.csl_style.specs.declared.style.settings.Scope.{Scope}
@@ -73,3 +73,10 @@ citation_keys list = list.citation_keys.items
 
 abbrev pub bibliography_keys : ListStyle → List KeyLayout
 bibliography_keys list = list.bibliography_keys.items
+
+-- each layout that a list renders is within the limits
+abbrev pub IsWithin : ListStyle → ℕ → ℕ → ℕ → Type 0
+IsWithin list rendered size depth =
+    IsAllWithin (style_of list) rendered size depth
+    × AreKeysWithin (style_of list) rendered size depth (citation_keys list)
+    × AreKeysWithin (style_of list) rendered size depth (bibliography_keys list)

@@ -2,6 +2,7 @@
 use Rattle.std.specs.Prelude.{◌≡◌, [], false, None, string_bytes}
 use Rattle.csl_list.specs.declared.options.BibliographyOptions.{BibliographyOptions}
 use Rattle.csl_list.specs.declared.options.CitationOptions.{CitationOptions}
+use Rattle.csl_list.specs.declared.options.GivenNameRule.TheVariants.{ByCite}
 
 abbrev pub HasNoTexts : CitationOptions → Type 0
 HasNoTexts o = (string_bytes o.prefix ≡ []) × (string_bytes o.suffix ≡ []) × (string_bytes o.delimiter ≡ [])
@@ -13,6 +14,14 @@ IsNotShortened o =
     × (o.cite_group_delimiter ≡ None)
     × (o.year_suffix_delimiter ≡ None)
     × (o.after_collapse_delimiter ≡ None)
+
+-- works are not told apart
+abbrev pub HasNoDisambiguation : CitationOptions → Type 0
+HasNoDisambiguation o =
+    (o.adds_names ≡ false)
+    × (o.adds_given_names ≡ false)
+    × (o.given_name_rule ≡ ByCite)
+    × (o.adds_year_suffix ≡ false)
 
 -- a space of one line between two works
 abbrev pub HasNoOptions : BibliographyOptions → Type 0

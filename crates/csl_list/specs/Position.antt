@@ -16,7 +16,7 @@ SamePlace before cite = option_map locator_view before.locator ≡ option_map lo
 
 abbrev pub IsIbidState : PlacedCite → PlacedCite → IbidState → Type 0
 IsIbidState before cite Ibid = (before.work ≡ cite.work) × SamePlace before cite
-IsIbidState before cite IbidWithLocator = (before.work ≡ cite.work) × (is_some cite.locator ≡ true)
+IsIbidState before cite IbidWithLocator = (before.work ≡ cite.work) × (is_some cite.locator ≡ true) × (SamePlace before cite → ⊥)
 IsIbidState before cite Different = before.work ≡ cite.work → (is_some cite.locator ≡ false) × (is_some before.locator ≡ true)
 
 abbrev pub distance_of : ℕ → ℕ → ℕ

@@ -1,5 +1,4 @@
 //! The works of a bibliography (CSL 1.0.2, Bibliography; Layout; second-field-align).
-//! Definitions: specs/Bibliography.antt.
 
 ghost use Rattle.std.specs.Prelude.{◌≡◌, ◌<◌, ◌++◌, None, IfOk, IfErr, length, map, string_bytes};
 ghost use Rattle.std.specs.List.{All, range_with_len};

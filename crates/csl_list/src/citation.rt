@@ -1,7 +1,6 @@
 //! A citation: its cites in a row, between the style's texts (CSL 1.0.2, Citation; Layout).
-//! Definitions: specs/Citation.antt.
 
-ghost use Rattle.std.specs.Prelude.{◌≡◌, ◌<◌, ◌++◌, [], IfOk, IfErr, OnOk, length};
+ghost use Rattle.std.specs.Prelude.{◌≡◌, ◌<◌, ◌++◌, [], IfOk, IfErr, OnOk, filter, length, map};
 ghost use Rattle.std.specs.List.{All};
 ghost use Rattle.csl_entry.specs.Cite.{cite_state};
 ghost use Rattle.csl_finish.specs.Keys.{ArePlaces};
@@ -24,11 +23,12 @@ use crate::pieces::{push_entry, push_text, push_tree};
 use crate::position::{CitesSoFar, PlacedCite, Position};
 use crate::rendered::RenderedCitation;
 use crate::request::{CitationItem, CitationRequest, CitePurpose};
+use crate::told::{ToldCite, forms_at};
 use csl::Renderer;
 use csl_common::Memory;
 use csl_entry::{
-    CertainCiteProperties, CiteProperties, EntryLike, SpecialForm, SpecificLocator,
-    SpeculativeCiteProperties,
+    CertainCiteProperties, CiteProperties, DisambiguateState, EntryLike,
+    NameDisambiguationProperties, SpecialForm, SpecificLocator, SpeculativeCiteProperties,
 };
 use csl_finish::finish;
 use csl_tree::{ElemChildren, Formatting};
@@ -45,6 +45,8 @@ pub(crate) struct PositionedCite<'a, 'd, T> {
     pub locator: Option<SpecificLocator<'a>>,
     pub position: Position,
     pub identity: Identity,
+    /// The forms of its names, if they are not those that the style itself gives.
+    pub forms: Option<&'a NameDisambiguationProperties>,
 }
 
 /// The properties of a cite.
@@ -67,31 +69,94 @@ fn props_of<'a, T>(cite: &PositionedCite<'a, '_, T>) -> CiteProperties<'a>
     }
 }
 
-/// What a citation prints of a cite.
+/// A part of a cite with these properties.
+fn part_content<T: EntryLike>(
+    alloc: Global,
+    renderer: &mut Renderer<'_>,
+    cite: &PositionedCite<'_, '_, T>,
+    props: &CiteProperties<'_>,
+    part: CitePart,
+) -> Result<ElemChildren, ListError>
+    ensures ok { IfOk result (λ content. tokens content
+        ≡ spec.part_content T.answers renderer.old.style part (cite_state props.now) cite.now) }
+    ensures style { renderer.new.style ≡ renderer.old.style }
+    ensures err { IfErr result IsListingError }
+{
+    let work = cite.work;
+    match part {
+        CitePart::Whole => cite_content(alloc, renderer, work, props, cite.item.purpose),
+        CitePart::Author => {
+            let purpose = Some(CitePurpose::Author);
+            cite_content(alloc, renderer, work, props, purpose)
+        }
+        CitePart::WithoutNames => {
+            let form = Some(SpecialForm::SuppressAuthor);
+            citation_content(alloc, renderer, work, props, form)
+        }
+        CitePart::YearSuffix => {
+            let form = Some(SpecialForm::OnlyYearSuffix);
+            citation_content(alloc, renderer, work, props, form)
+        }
+        CitePart::Nothing => Ok(ElemChildren::new(alloc)),
+    }
+}
+
+/// The properties with forms of names in the place of a year suffix.
+fn with_forms<'d>(
+    alloc: Global,
+    props: CiteProperties<'d>,
+    forms: &NameDisambiguationProperties,
+) -> Result<CiteProperties<'d>, Memory> {
+    let disambiguation = DisambiguateState::NameDisambiguation(forms.clone(alloc)?);
+    Ok(CiteProperties {
+        certain: props.certain,
+        speculative: SpeculativeCiteProperties {
+            disambiguation,
+            ..props.speculative
+        },
+    })
+}
+
+/// A content with the first names of another one in the place of its own, if both have names.
+fn with_names_of(
+    alloc: Global,
+    content: ElemChildren,
+    named: &ElemChildren,
+) -> Result<ElemChildren, Memory> {
+    let mut content = content;
+    let Some(names) = named.find_names() else {
+        return Ok(content);
+    };
+    let names = names.children.clone(alloc)?;
+    if let Some(own) = content.find_names_mut() {
+        own.children = names;
+    }
+    Ok(content)
+}
+
+/// A part of a cite. A cite has either a year suffix or forms of names, so if both tell it apart,
+/// the names are those of the cite without its suffix.
 fn content_of<T: EntryLike>(
     alloc: Global,
     renderer: &mut Renderer<'_>,
     cite: &PositionedCite<'_, '_, T>,
     part: CitePart,
 ) -> Result<ElemChildren, ListError>
-    ensures ok { IfOk result (λ content. tokens content
+    ensures ok { spec.HasOwnForms cite.now → IfOk result (λ content. tokens content
         ≡ spec.content_of T.answers renderer.old.style part cite.now) }
     ensures style { renderer.new.style ≡ renderer.old.style }
     ensures err { IfErr result IsListingError }
 {
-    let (props, work) = (props_of(cite), cite.work);
-    match part {
-        CitePart::Whole => cite_content(alloc, renderer, work, &props, cite.item.purpose),
-        CitePart::WithoutNames => {
-            let form = Some(SpecialForm::SuppressAuthor);
-            citation_content(alloc, renderer, work, &props, form)
-        }
-        CitePart::YearSuffix => {
-            let form = Some(SpecialForm::OnlyYearSuffix);
-            citation_content(alloc, renderer, work, &props, form)
-        }
-        CitePart::Nothing => Ok(ElemChildren::new(alloc)),
+    let Some(forms) = cite.forms else {
+        return part_content(alloc, renderer, cite, &props_of(cite), part);
+    };
+    let props = with_forms(alloc, props_of(cite), forms)?;
+    let named = part_content(alloc, renderer, cite, &props, part)?;
+    if cite.identity.year_suffix.is_none() && !cite.identity.chooses {
+        return Ok(named);
     }
+    let content = part_content(alloc, renderer, cite, &props_of(cite), part)?;
+    Ok(with_names_of(alloc, content, &named)?)
 }
 
 /// Adds a text of the author, if there is one.
@@ -161,8 +226,9 @@ fn cites_in_a_row<T: EntryLike>(
     cites: &[PositionedCite<'_, '_, T>],
 ) -> Result<ElemChildren, ListError>
     requires { length links.now ≡ length cites.now }
-    ensures ok { IfOk result (λ content. tokens content ≡ spec.cites_after T.answers
-        renderer.old.style options.now formatting links.now 0 [] cites.now) }
+    ensures ok { All spec.HasOwnForms cites.now → IfOk result (λ content. tokens content
+        ≡ spec.cites_after T.answers renderer.old.style options.now formatting links.now 0 []
+        cites.now) }
     ensures style { renderer.new.style ≡ renderer.old.style }
     ensures err { IfErr result IsListingError }
 {
@@ -220,7 +286,7 @@ fn author_in_text<T: EntryLike>(
     renderer: &mut Renderer<'_>,
     cite: &PositionedCite<'_, '_, T>,
 ) -> Result<ElemChildren, ListError>
-    ensures ok { IfOk result (λ content. tokens content
+    ensures ok { spec.HasOwnForms cite.now → IfOk result (λ content. tokens content
         ≡ spec.author_of T.answers renderer.old.style cite.now) }
     ensures style { renderer.new.style ≡ renderer.old.style }
     ensures err { IfErr result IsListingError }
@@ -228,8 +294,7 @@ fn author_in_text<T: EntryLike>(
     if !is_prose(cite.item.purpose) {
         return Ok(ElemChildren::new(alloc));
     }
-    let (props, author) = (props_of(cite), Some(CitePurpose::Author));
-    let author = cite_content(alloc, renderer, cite.work, &props, author)?;
+    let author = content_of(alloc, renderer, cite, CitePart::Author)?;
     Ok(with_space(alloc, author)?)
 }
 
@@ -264,8 +329,9 @@ fn unfinished_citation<T: EntryLike>(
     cites: &[PositionedCite<'_, '_, T>],
 ) -> Result<ElemChildren, ListError>
     requires { length links.now ≡ length cites.now }
-    ensures ok { IfOk result (λ content. tokens content ≡ spec.unfinished_citation T.answers
-        renderer.old.style options.now formatting links.now cites.now) }
+    ensures ok { All spec.HasOwnForms cites.now → IfOk result (λ content. tokens content
+        ≡ spec.unfinished_citation T.answers renderer.old.style options.now formatting links.now
+        cites.now) }
     ensures err { IfErr result IsListingError }
 {
     let inside = cites_in_a_row(alloc, renderer, options, formatting, links, cites)?;
@@ -311,12 +377,15 @@ fn positioned_cites<'a, 'd, T>(
     order: &[usize],
     works: &'a [T],
     identities: &[Identity],
+    told: &'a [ToldCite],
     marked: &'a [Option<String>],
     so_far: &mut CitesSoFar<'d>,
 ) -> Result<Vec<PositionedCite<'a, 'd, T>>, Memory>
     requires order { ArePlaces request.now.items.items order.now }
     requires works { AreWorksThere (length works.now) request.now }
     requires identities { length identities.now ≡ length works.now }
+    ensures { IfOk result (λ cites. map (λ cite. cite.index) cites.items
+        ≡ filter (spec.is_shown_at request.now.items.items) order.now) }
 {
     let mut cites = Vec::with_capacity(alloc, order.len())?;
     for index in order {
@@ -326,6 +395,7 @@ fn positioned_cites<'a, 'd, T>(
             locator: item.locator,
             note: request.note_number,
         });
+        let identity = identities[item.work];
         if !item.hidden {
             cites.push(PositionedCite {
                 item,
@@ -333,7 +403,8 @@ fn positioned_cites<'a, 'd, T>(
                 index: *index,
                 locator: locator_with_marks(item, marked.get(*index)),
                 position,
-                identity: identities[item.work],
+                identity,
+                forms: forms_at(told, identity.number.get() as usize),
             })?;
         }
     }
@@ -348,6 +419,7 @@ pub(crate) fn rendered_citation<'d, T: EntryLike>(
     style: &ListStyle,
     works: &[T],
     identities: &[Identity],
+    told: &[ToldCite],
     request: &CitationRequest<'d>,
     so_far: &mut CitesSoFar<'d>,
 ) -> Result<RenderedCitation, ListError>
@@ -359,7 +431,9 @@ pub(crate) fn rendered_citation<'d, T: EntryLike>(
     let options = style.citation();
     let order = cite_order(alloc, renderer, style, works, identities, &request.items)?;
     let marked = marked_locators(alloc, &request.items)?;
-    let cites = positioned_cites(alloc, request, &order, works, identities, &marked, so_far)?;
+    let cites = positioned_cites(
+        alloc, request, &order, works, identities, told, &marked, so_far,
+    )?;
     let links = links_of(alloc, options, &cites)?;
     let formatting = Formatting::default().apply(style.style().citation().formatting);
     let mut content = unfinished_citation(alloc, renderer, options, formatting, &links, &cites)?;

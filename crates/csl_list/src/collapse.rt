@@ -1,6 +1,5 @@
 //! Cites in a row: which of them stand together, what each leaves out that the one before it says,
 //! and the text between them (CSL 1.0.2, Cite Grouping; Cite Collapsing).
-//! Definitions: specs/Collapse.antt.
 
 ghost use Rattle.std.specs.Prelude.{◌≡◌, ◌<◌, ◌++◌, IfOk, length, get_or, map};
 ghost use Rattle.std.specs.List.{range_with_len};
@@ -54,6 +53,7 @@ pub(crate) enum Delimiter {
 #[derive(Clone, Copy)]
 pub(crate) enum CitePart {
     Whole,
+    Author,
     WithoutNames,
     YearSuffix,
     Nothing,

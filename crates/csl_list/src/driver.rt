@@ -1,5 +1,4 @@
 //! The driver: from the citations of a document to its list (CSL 1.0.2, Citation; Bibliography).
-//! Definitions: specs/Driver.antt.
 
 ghost use Rattle.std.specs.Prelude.{◌≡◌, ◌<◌, ◌++◌, ◌∷◌, [], IfOk, IfErr, IfSome, OnOk, OnErr, length, map};
 ghost use Rattle.std.specs.List.Sorted.{IsPermutation};
@@ -11,16 +10,16 @@ ghost use Rattle.csl_list.specs.Driver as spec;
 
 use crate::bibliography::items;
 use crate::citation::rendered_citation;
-use crate::collapse::is_grouping;
 use crate::error::ListError;
 use crate::identity::{Identity, identities_by};
 use crate::keys::{by_first_cites, by_keys};
-use crate::likeness::{cite_texts, likenesses};
+use crate::likeness::likenesses;
 use crate::list_style::ListStyle;
 use crate::listed::{ListedWorks, check_works, cited_works, first_cites, listed_works};
 use crate::position::CitesSoFar;
 use crate::rendered::{RenderedBibliography, RenderedCitation, RenderedList};
 use crate::request::CitationRequest;
+use crate::told::{ToldCite, choices, told_cites};
 use crate::year_suffix::year_suffixes;
 use csl::Renderer;
 use csl_common::Memory;
@@ -79,38 +78,37 @@ fn listed_order<T: EntryLike>(
     Ok(order)
 }
 
-/// The identities of the works of a list in this order.
+/// The identities of the works of a list in this order. Works whose cites are still equal get year
+/// suffixes, if the style has them, or else the branches that test `disambiguate`.
 fn identities<T: EntryLike>(
     alloc: Global,
     renderer: &mut Renderer<'_>,
     style: &ListStyle,
     works: &[T],
     order: &[usize],
+    told: &[ToldCite],
 ) -> Result<Vec<Identity>, ListError>
     requires { All (λ work. work < length works.now) order.now }
     ensures ok { IfOk result (λ identities. length identities.items ≡ length works.now) }
     ensures err { IfErr result IsListingError }
 {
-    let (options, count) = (style.citation(), works.len());
-    if !options.adds_year_suffix && !is_grouping(options) {
-        return identities_by(alloc, order, &[], &[], count);
+    let likenesses = likenesses(alloc, told)?;
+    if style.citation().adds_year_suffix {
+        let suffixes = year_suffixes(alloc, told)?;
+        return identities_by(alloc, order, &suffixes, &[], &likenesses, works.len());
     }
-    let texts = cite_texts(alloc, renderer, works, order)?;
-    let likenesses = likenesses(alloc, &texts)?;
-    if !options.adds_year_suffix {
-        return identities_by(alloc, order, &[], &likenesses, count);
-    }
-    let suffixes = year_suffixes(alloc, &texts.cites)?;
-    identities_by(alloc, order, &suffixes, &likenesses, count)
+    let choices = choices(alloc, renderer, works, order, told)?;
+    identities_by(alloc, order, &[], &choices, &likenesses, works.len())
 }
 
 /// The citations in the order in which they were asked for.
-fn rendered_citations<T: EntryLike>(
+fn citations_of<T: EntryLike>(
     alloc: Global,
     renderer: &mut Renderer<'_>,
     style: &ListStyle,
     works: &[T],
     identities: &[Identity],
+    told: &[ToldCite],
     requests: &[CitationRequest<'_>],
 ) -> Result<Vec<RenderedCitation>, ListError>
     requires works { All (AreWorksThere (length works.now)) requests.now }
@@ -129,6 +127,7 @@ fn rendered_citations<T: EntryLike>(
             style,
             works,
             identities,
+            told,
             request,
             &mut so_far,
         )?;
@@ -138,7 +137,7 @@ fn rendered_citations<T: EntryLike>(
 }
 
 /// The bibliography of the works in this order, if the style and its options have one.
-fn rendered_bibliography<T: EntryLike>(
+fn bibliography_of<T: EntryLike>(
     alloc: Global,
     renderer: &mut Renderer<'_>,
     style: &ListStyle,
@@ -248,16 +247,19 @@ impl<'d> BibliographyDriver<'d> {
         let mut renderer = Renderer::new(style.style()).limited(self.limit);
         let requests = self.requests.as_slice();
         let order = listed_order(alloc, &mut renderer, style, works, requests, listed)?;
-        let identities = identities(alloc, &mut renderer, style, works, &order)?;
-        let citations = rendered_citations(
+        let options = style.citation();
+        let told = told_cites(alloc, &mut renderer, options, works, &order)?;
+        let identities = identities(alloc, &mut renderer, style, works, &order, &told)?;
+        let citations = citations_of(
             alloc,
             &mut renderer,
             style,
             works,
             &identities,
+            &told,
             requests,
         )?;
-        let bibliography = rendered_bibliography(
+        let bibliography = bibliography_of(
             alloc,
             &mut renderer,
             style,

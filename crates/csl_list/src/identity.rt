@@ -1,7 +1,7 @@
 //! What the cites of a work print of the list: its number, and its year suffix (CSL 1.0.2, Number
 //! Variables: citation-number; Disambiguation).
 
-ghost use Rattle.std.specs.Prelude.{◌≡◌, None, IfOk, IfErr, length};
+ghost use Rattle.std.specs.Prelude.{◌≡◌, None, false, IfOk, IfErr, length};
 ghost use Rattle.csl_entry.specs.Cite.{cite_state, disambiguation_of};
 ghost use Rattle.csl_entry.specs.Numbers.{citation_number};
 ghost use Rattle.csl_list.specs.declared.error.ListError.TheVariants as errors;
@@ -26,6 +26,8 @@ pub(crate) struct Likeness {
 pub(crate) struct Identity {
     pub number: CitationNumber,
     pub year_suffix: Option<u16>,
+    /// Whether branches that test `disambiguate` hold.
+    pub chooses: bool,
     pub likeness: Likeness,
 }
 
@@ -37,10 +39,12 @@ const UNLIKE: Likeness = Likeness {
 
 /// How cites of a work are told apart from those of others.
 fn disambiguation_of(identity: Identity) -> DisambiguateState
-    ensures { disambiguation_of result ≡ spec.disambiguation_of identity.year_suffix }
+    ensures { disambiguation_of result
+        ≡ spec.disambiguation_of identity.year_suffix identity.chooses }
 {
     match identity.year_suffix {
         Some(suffix) => DisambiguateState::YearSuffix(suffix),
+        None if identity.chooses => DisambiguateState::Choose,
         None => DisambiguateState::None,
     }
 }
@@ -50,10 +54,12 @@ impl Identity {
     pub fn numbered(number: CitationNumber) -> Identity
         ensures number { result.number ≡ number }
         ensures suffix { result.year_suffix ≡ None }
+        ensures chooses { result.chooses ≡ false }
     {
         Identity {
             number,
             year_suffix: None,
+            chooses: false,
             likeness: UNLIKE,
         }
     }
@@ -88,6 +94,7 @@ pub(crate) fn identities_by(
     alloc: Global,
     order: &[usize],
     suffixes: &[Option<u16>],
+    choices: &[bool],
     likenesses: &[Likeness],
     works: usize,
 ) -> Result<Vec<Identity>, ListError>
@@ -98,11 +105,13 @@ pub(crate) fn identities_by(
     for (place, work) in order.iter().enumerate() {
         let number = number_at(place)?;
         let year_suffix = suffixes.get(place).copied().flatten();
+        let chooses = choices.get(place).copied().unwrap_or(false);
         let likeness = likenesses.get(place).copied().unwrap_or(UNLIKE);
         if let Some(own) = identities.get_mut(*work) {
             *own = Identity {
                 number,
                 year_suffix,
+                chooses,
                 likeness,
             };
         }

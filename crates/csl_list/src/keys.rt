@@ -1,5 +1,5 @@
 //! The sort keys of works and cites, and their orders (CSL 1.0.2, Sorting).
-//! Definitions: specs/Order.antt.
+//! Definitions: specs/Errors.antt.
 
 ghost use Rattle.std.specs.Prelude.{◌≡◌, ◌<◌, IfOk, IfErr, length};
 ghost use Rattle.std.specs.List.{All};

@@ -14,6 +14,7 @@ mod collapse;
 mod driver;
 mod equal;
 mod error;
+mod given_names;
 mod identity;
 mod keys;
 mod likeness;
@@ -27,6 +28,7 @@ mod rendered;
 mod request;
 mod style_error;
 mod substitute;
+mod told;
 mod year_suffix;
 
 pub use driver::BibliographyDriver;
@@ -34,8 +36,8 @@ pub use error::ListError;
 pub use list_style::ListStyle;
 pub use listed::ListedWorks;
 pub use options::{
-    AuthorSubstitute, BibliographyOptions, CitationOptions, Collapse, KeySource, SecondFieldAlign,
-    SortKey, SubstituteRule,
+    AuthorSubstitute, BibliographyOptions, CitationOptions, Collapse, GivenNameRule, KeySource,
+    SecondFieldAlign, SortKey, SubstituteRule,
 };
 pub use rendered::{BibliographyItem, RenderedBibliography, RenderedCitation, RenderedList};
 pub use request::{CitationItem, CitationRequest, CitePurpose, plain_affix};

@@ -1,10 +1,8 @@
 //! A style with its options for a document (CSL 1.0.2, Style Structure; Sorting).
-//! Definitions: specs/ListStyle.antt.
 
 ghost use Rattle.std.specs.List.{All};
-ghost use Rattle.std.specs.Prelude.{◌≡◌, IfOk, IfErr, OnOk, IsTrue, length, option_copied};
+ghost use Rattle.std.specs.Prelude.{◌≡◌, IfOk, IfErr, OnOk, IsFalse, IsTrue, length, option_copied};
 ghost use Rattle.csl_elements.specs.View.{definitions};
-ghost use Rattle.csl_style.specs.AllWithin.{IsAllWithin};
 ghost use Rattle.csl_list.specs.ListStyle as spec;
 
 use crate::options::{BibliographyOptions, CitationOptions, KeySource, SortKey};
@@ -123,7 +121,8 @@ fn keys_of(bibliography: &Option<BibliographyOptions>) -> &[SortKey]
     }
 }
 
-/// Whether a layout for each key is within the limits.
+/// Whether the layout of each key is within the limits.
+#[tactic(auto, using(crate::proofs::KeysWithin::key_above))]
 fn are_keys_within(
     style: &Style,
     keys: &[KeyLayout],
@@ -131,7 +130,8 @@ fn are_keys_within(
     size: u64,
     depth: usize,
 ) -> bool
-    ensures { IsTrue result → spec.AreKeysWithin style.now rendered size depth keys.now }
+    ensures within { IsTrue result → spec.AreKeysWithin style.now rendered size depth keys.now }
+    ensures above { IsFalse result → ¬ spec.AreKeysWithin style.now rendered size depth keys.now }
 {
     for key in keys {
         if !style.rendered_within(&key.layout, rendered, size, depth) {
@@ -197,23 +197,26 @@ impl ListStyle {
         self.bibliography.as_ref()
     }
 
+    /// The keys of the citation as layouts.
     pub(crate) fn citation_keys(&self) -> &[KeyLayout]
         ensures { result.now ≡ spec.citation_keys self.now }
     {
         &self.citation_keys
     }
 
+    /// The keys of the bibliography as layouts.
     pub(crate) fn bibliography_keys(&self) -> &[KeyLayout]
         ensures { result.now ≡ spec.bibliography_keys self.now }
     {
         &self.bibliography_keys
     }
 
-    /// Whether all layouts that a list renders are within the limits of `Style::all_within`: those
+    /// Whether all layouts that a list renders are within the limits of [`Style::all_within`]: those
     /// of the style, and that of each key. Check this before you use a style from a stranger.
     ///
     /// # Errors
     /// [`Memory`]: out of memory.
+    #[tactic(auto, using(crate::proofs::KeysWithin::style_above, crate::proofs::KeysWithin::citation_above, crate::proofs::KeysWithin::bibliography_above))]
     pub fn all_within(
         &self,
         alloc: Global,
@@ -221,22 +224,18 @@ impl ListStyle {
         size: u64,
         depth: usize,
     ) -> Result<bool, Memory>
-        ensures style { IfOk result (λ within. IsTrue within
-            → IsAllWithin (spec.style_of self.now) rendered size depth) }
-        ensures citation { IfOk result (λ within. IsTrue within
-            → spec.AreKeysWithin (spec.style_of self.now) rendered size depth
-            (spec.citation_keys self.now)) }
-        ensures bibliography { IfOk result (λ within. IsTrue within
-            → spec.AreKeysWithin (spec.style_of self.now) rendered size depth
-            (spec.bibliography_keys self.now)) }
+        ensures within { IfOk result (λ within. IsTrue within
+            → spec.IsWithin self.now rendered size depth) }
+        ensures above { IfOk result (λ within. IsFalse within
+            → ¬ spec.IsWithin self.now rendered size depth) }
     {
         if !self.style.all_within(alloc, rendered, size, depth)? {
             return Ok(false);
         }
         let (citation, bibliography) = (&self.citation_keys, &self.bibliography_keys);
-        Ok(
-            are_keys_within(&self.style, citation, rendered, size, depth)
-                && are_keys_within(&self.style, bibliography, rendered, size, depth),
-        )
+        if !are_keys_within(&self.style, citation, rendered, size, depth) {
+            return Ok(false);
+        }
+        Ok(are_keys_within(&self.style, bibliography, rendered, size, depth))
     }
 }

@@ -1,5 +1,4 @@
 //! The works of a list, and where each is first cited.
-//! Definitions: specs/Listed.antt.
 
 ghost use Rattle.std.specs.Prelude.{◌≡◌, ◌<◌, ◌++◌, ℕ, IfErr, OnOk, IfOk, length, is_some, filter, get_or, None};
 ghost use Rattle.std.specs.List.{All, range_with_len};

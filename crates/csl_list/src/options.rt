@@ -2,7 +2,7 @@
 //! Citation-specific Options; Bibliography-specific Options; Layout; Sorting).
 
 ghost use Rattle.std.specs.Prelude.{◌≡◌, [], false, None};
-ghost use Rattle.csl_list.specs.Options.{HasNoTexts, IsNotShortened, HasNoOptions};
+ghost use Rattle.csl_list.specs.Options.{HasNoTexts, HasNoDisambiguation, IsNotShortened, HasNoOptions};
 
 use csl_elements::Variable;
 use std::alloc::Global;
@@ -42,6 +42,23 @@ pub enum Collapse {
     YearSuffixRanged,
 }
 
+/// The names whose given names are shown to tell them apart (CSL 1.0.2,
+/// givenname-disambiguation-rule). A given name is shown as initials first, and whole if that does
+/// not suffice, if the style has initials.
+#[derive(Clone, Copy, Debug, PartialEq, Eq, Hash)]
+pub enum GivenNameRule {
+    /// Each name that is that of several persons of the document.
+    AllNames,
+    /// The same, by initials alone.
+    AllNamesWithInitials,
+    /// The first name of each cite, if it is that of several first persons.
+    PrimaryName,
+    /// The same, by initials alone.
+    PrimaryNameWithInitials,
+    /// The names of equal cites, one by one, if that tells some of these cites apart.
+    ByCite,
+}
+
 /// The options of citations (CSL 1.0.2, Citation-specific Options; Layout).
 #[derive(Drop)]
 pub struct CitationOptions {
@@ -65,6 +82,13 @@ pub struct CitationOptions {
     pub after_collapse_delimiter: Option<String>,
     /// The number of notes up to which an earlier note is near (near-note-distance).
     pub near_note_distance: u32,
+    /// Whether equal first cites show more of their names, if that tells some of them apart
+    /// (disambiguate-add-names).
+    pub adds_names: bool,
+    /// Whether names are told apart by given names (disambiguate-add-givenname).
+    pub adds_given_names: bool,
+    /// Which names these are (givenname-disambiguation-rule).
+    pub given_name_rule: GivenNameRule,
     /// Whether works with equal first cites get year suffixes, in the order of the list
     /// (disambiguate-add-year-suffix).
     pub adds_year_suffix: bool,
@@ -153,14 +177,15 @@ impl SortKey {
 }
 
 impl CitationOptions {
-    /// No texts, no keys, nothing shortened and no year suffixes. A note is near up to a distance of
-    /// 5, as CSL has it.
+    /// No texts, no keys, nothing shortened, and works told apart by branches that test
+    /// `disambiguate` alone. A note is near up to a distance of 5, and the rule of given names is by
+    /// cite, as CSL has it.
     pub fn new(alloc: Global) -> CitationOptions
         ensures texts { HasNoTexts result }
         ensures keys { result.keys.items ≡ [] }
         ensures collapse { IsNotShortened result }
         ensures distance { result.near_note_distance ≡ 5 }
-        ensures suffixes { result.adds_year_suffix ≡ false }
+        ensures disambiguation { HasNoDisambiguation result }
     {
         CitationOptions {
             prefix: String::new(alloc),
@@ -172,6 +197,9 @@ impl CitationOptions {
             year_suffix_delimiter: None,
             after_collapse_delimiter: None,
             near_note_distance: 5,
+            adds_names: false,
+            adds_given_names: false,
+            given_name_rule: GivenNameRule::ByCite,
             adds_year_suffix: false,
         }
     }

@@ -1,5 +1,4 @@
 //! Contents that grow by texts, trees and cites.
-//! Definitions: specs/Pieces.antt.
 
 ghost use Rattle.std.specs.Prelude.{◌≡◌, ◌++◌, OnOk};
 ghost use Rattle.csl_tree.specs.Tokens.{child_tokens, tokens};

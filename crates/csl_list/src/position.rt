@@ -1,6 +1,5 @@
 //! The positions of cites (CSL 1.0.2, Choose: position; Number Variables:
 //! first-reference-note-number).
-//! Definitions: specs/Position.antt.
 
 ghost use Rattle.std.specs.Prelude.{◌≡◌, option_map};
 ghost use Rattle.std.specs.Bool.{Decides};

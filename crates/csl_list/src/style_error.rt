@@ -1,5 +1,4 @@
 //! The reasons to refuse a style with its options.
-//! Definitions: specs/ListStyle.antt.
 
 ghost use Rattle.std.specs.Prelude.{◌≡◌};
 ghost use Rattle.csl_list.specs.declared.style_error.ListStyleError.TheVariants as errors;

@@ -2,8 +2,9 @@
 //! subsequent-author-substitute-rule).
 
 use crate::options::{AuthorSubstitute, SubstituteRule};
+use crate::request::plain_affix;
 use csl_common::Memory;
-use csl_tree::{BufWriteFormat, Elem, ElemChild, ElemChildren, ElemMeta, Formatting};
+use csl_tree::{BufWriteFormat, Elem, ElemChild, ElemChildren, ElemMeta};
 use std::alloc::Global;
 
 /// The names that the work before begins with: as one text, and each by itself.
@@ -50,16 +51,6 @@ fn each_name(alloc: Global, content: &ElemChildren) -> Result<Vec<String>, Memor
     Ok(names)
 }
 
-/// The substitute as a content, which is empty if its text is.
-fn substitute_content(alloc: Global, text: &str) -> Result<ElemChildren, Memory> {
-    let mut content = ElemChildren::new(alloc);
-    if !text.is_empty() {
-        let text = Formatting::default().add_text(String::from_str(alloc, text)?);
-        content.0.push(ElemChild::Text(text))?;
-    }
-    Ok(content)
-}
-
 /// Puts the substitute in the place of the first names, as many as are asked for, and returns how
 /// many of these a content lacks.
 #[cycle(put)]
@@ -84,7 +75,7 @@ fn put_for_names(
 #[cycle(put)]
 fn put_for_name(alloc: Global, elem: &mut Elem, text: &str, count: usize) -> Result<usize, Memory> {
     if is_name(elem) {
-        elem.children = substitute_content(alloc, text)?;
+        elem.children = plain_affix(alloc, text)?;
         return Ok(count.saturating_sub(1));
     }
     put_for_names(alloc, &mut elem.children, text, count)
@@ -125,7 +116,7 @@ fn put_substitute(
         return Ok(());
     };
     if is_whole {
-        names.children = substitute_content(alloc, text)?;
+        names.children = plain_affix(alloc, text)?;
     } else {
         let _left = put_for_names(alloc, &mut names.children, text, count)?;
     }

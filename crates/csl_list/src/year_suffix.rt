@@ -1,17 +1,19 @@
 //! Year suffixes of works with equal cites (CSL 1.0.2, Disambiguation:
 //! disambiguate-add-year-suffix).
+//! Definitions: specs/Errors.antt.
 
 ghost use Rattle.std.specs.Prelude.{◌≡◌, IfOk, IfErr};
 ghost use Rattle.csl_list.specs.Errors.{IsListingError};
 
 use crate::error::ListError;
-use crate::likeness::text_keys;
+use crate::likeness::cite_keys;
+use crate::told::ToldCite;
 use csl_common::Memory;
 use csl_finish::order_of;
 use std::alloc::Global;
 
 /// Whether the texts at two places are there, and equal.
-fn are_equal_at(texts: &[String], one: Option<&usize>, other: Option<&usize>) -> bool {
+fn are_equal_at(texts: &[&str], one: Option<&usize>, other: Option<&usize>) -> bool {
     let (Some(one), Some(other)) = (one, other) else {
         return false;
     };
@@ -22,8 +24,8 @@ fn are_equal_at(texts: &[String], one: Option<&usize>, other: Option<&usize>) ->
 }
 
 /// For each text its index among those that are equal to it, if there are others.
-fn indices_among_equals(alloc: Global, texts: &[String]) -> Result<Vec<Option<usize>>, Memory> {
-    let order = order_of(alloc, text_keys(alloc, texts)?)?;
+fn indices_among_equals(alloc: Global, texts: &[&str]) -> Result<Vec<Option<usize>>, Memory> {
+    let order = order_of(alloc, texts.to_vec(alloc)?)?;
     let mut indices = vec![in alloc; None; texts.len()]?;
     let mut index: usize = 0;
     let mut before: Option<&usize> = None;
@@ -51,10 +53,11 @@ fn suffix_at(index: usize) -> Result<u16, ListError>
 
 /// The year suffixes of the works of a list, in its order, by their first cites: `a`, `b`, .. for
 /// works with equal ones.
-pub(crate) fn year_suffixes(alloc: Global, cites: &[String]) -> Result<Vec<Option<u16>>, ListError>
+pub(crate) fn year_suffixes(alloc: Global, told: &[ToldCite]) -> Result<Vec<Option<u16>>, ListError>
     ensures err { IfErr result IsListingError }
 {
-    let indices = indices_among_equals(alloc, cites)?;
+    let texts = cite_keys(alloc, told)?;
+    let indices = indices_among_equals(alloc, &texts)?;
     let mut suffixes = Vec::with_capacity(alloc, indices.len())?;
     for index in indices {
         suffixes.push(match index {

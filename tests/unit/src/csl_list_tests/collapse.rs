@@ -120,9 +120,9 @@ static YEARS: [Row; 15] = [
     ),
     (
         Some(Collapse::Year),
-        (" & ", "", "."),
+        (" + ", "", "."),
         "0;1;2;3",
-        "(Doe, 1999 & 2006.Smith, 2002; Doe and Roe, 2007)",
+        "(Doe, 1999 + 2006.Smith, 2002; Doe and Roe, 2007)",
     ),
     (
         Some(Collapse::Year),

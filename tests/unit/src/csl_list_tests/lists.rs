@@ -46,7 +46,17 @@ pub(crate) fn assert_list(
 }
 
 /// Keys of the cites and of the works, the citations, and the list.
-static OF_AUTHORS: [(&str, &str, &[&str], &str); 4] = [
+static OF_AUTHORS: [(&str, &str, &[&str], &str); 7] = [
+    // no citations, and a citation without cites
+    ("", "ay", &[], ""),
+    ("a", "ay", &[""], " / "),
+    // one work twice
+    (
+        "a",
+        "",
+        &["1;1"],
+        "(Roe, 2010; Roe, 2010) / Roe, Max. 2010. Hills. / ",
+    ),
     // no keys: as cited
     (
         "",
@@ -206,6 +216,41 @@ fn cites_have_positions(rt: HostRuntime) {
     drop(style);
 }
 
+/// Notes that fall, and cites in no note.
+static NOTES: [(&[&str], &str); 3] = [
+    (
+        &["9: 0", "3: 1;0", "7: 0"],
+        "Seas. / Hills; later 9. / near. / ",
+    ),
+    (
+        &["9: 0", "0", "1", "4: 0"],
+        "Seas. / ibid. / Hills. / near. / ",
+    ),
+    // only notes count as the first
+    (
+        &["0", "1", "5: 0", "1", "7: 0", "1", "20: 0"],
+        "Seas. / Hills. / later. / later. / near. / later. / later 5. / ",
+    ),
+];
+
+#[test]
+fn notes_may_fall_or_be_absent(rt: HostRuntime) {
+    let alloc = rt.alloc();
+    let citation = CitationOptions {
+        suffix: text(&rt, alloc, "."),
+        delimiter: text(&rt, alloc, "; "),
+        ..CitationOptions::new(alloc)
+    };
+    let style = ListStyle::new(alloc, of_notes(&rt, alloc), citation, None);
+    let style = style.expect(&rt, "a style");
+    let rows: &[(&[&str], &str)] = &NOTES;
+    for &(citations, wanted) in rows {
+        let listed = ListedWorks::Cited;
+        assert_list(&rt, alloc, &style, &WORKS, citations, listed, wanted);
+    }
+    drop(style);
+}
+
 /// Works by two authors each.
 static PAIRS: [&str; 4] = [
     "Doe, Jane & Roe, Max|2009|Rivers",
@@ -301,6 +346,26 @@ fn each_printed_cite_names_its_work(rt: HostRuntime) {
     assert!(&rt; second.as_slice() == [1, 1].as_slice(), "{second:?}");
     let notes = (list.citations[0].note_number, list.citations[1].note_number);
     assert_of(&rt, &notes, &(None, NoteNumber::new(2)), "notes");
+    drop(list);
+    drop(works);
+    drop(style);
+}
+
+#[test]
+fn works_of_one_key_stay_apart(rt: HostRuntime) {
+    let alloc = rt.alloc();
+    let style = author_list(&rt, alloc, "", "a");
+    let works = works(&rt, alloc, &["Roe|2014|Seas", "Doe|2010|Seas"]);
+    let list = list(&rt, alloc, &style, &works, &["0;1"], ListedWorks::Cited);
+    let list = list.expect(&rt, "a list");
+    let bibliography = list.bibliography.as_ref().expect(&rt, "a bibliography");
+    for (item, work) in bibliography.items.iter().zip([1, 0]) {
+        assert_of(&rt, &(item.key.as_str(), item.work), &("Seas", work), work);
+    }
+    let text = text_of(&rt, alloc, &list);
+    let wanted = "(Roe, 2014; Doe, 2010)\nDoe. 2010. Seas.\nRoe. 2014. Seas.\n";
+    assert_of(&rt, &text.as_str(), &wanted, "one key");
+    drop(text);
     drop(list);
     drop(works);
     drop(style);

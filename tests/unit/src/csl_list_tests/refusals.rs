@@ -1,10 +1,17 @@
 //! Documents and options that are refused.
 
 use crate::assertions::assert_of;
-use crate::csl_list_tests::documents::{driver, works};
-use crate::csl_list_tests::styles::{author_list, in_parentheses, of_authors, with_periods};
+use crate::csl_list_tests::documents::{driver, text_of, works};
+use crate::csl_list_tests::styles::{
+    author_list, in_parentheses, of_authors, of_notes, with_periods,
+};
 use csl::Scope;
-use csl_list::{ListError, ListStyle, ListStyleError, ListedWorks};
+use csl::literature::Entry;
+use csl_list::{
+    BibliographyOptions, CitationOptions, ListError, ListStyle, ListStyleError, ListedWorks,
+};
+use std::alloc::Global;
+use std::process::Abort;
 
 /// Citations, and the place of the first cite of a work that is not there.
 static UNKNOWN: [(&[&str], (usize, usize)); 3] = [
@@ -81,25 +88,61 @@ fn errors_name_their_places(rt: HostRuntime) {
     drop(errors);
 }
 
+/// The list of a document under a limit, or `None` if that is too low.
+fn text_within(
+    rt: &impl Abort,
+    alloc: Global,
+    style: &ListStyle,
+    works: &[Entry],
+    limit: u64,
+) -> Option<String> {
+    let driver = driver(rt, alloc, &["0", "1;0"]).limited(limit);
+    match driver.finish(alloc, style, works, ListedWorks::All) {
+        Err(ListError::Limit) => None,
+        Err(_) => panic!(rt; "another error"),
+        Ok(list) => Some(text_of(rt, alloc, &list)),
+    }
+}
+
 #[test]
 fn a_list_has_one_limit(rt: HostRuntime) {
     let alloc = rt.alloc();
     let style = author_list(&rt, alloc, "a", "a");
     let works = works(&rt, alloc, &["Doe|2014|Seas", "Roe|2010|Hills"]);
-    let mut is_refused = true;
-    for limit in [0, 500, 1_000, 1_000_000] {
-        let driver = driver(&rt, alloc, &["0", "1"]).limited(limit);
-        is_refused = match driver.finish(alloc, &style, &works, ListedWorks::All) {
-            Err(ListError::Limit) => true,
-            Err(_) => panic!(&rt; "another error"),
-            Ok(list) => {
-                drop(list);
-                false
-            }
-        };
-        assert_of(&rt, &is_refused, &(limit < 1_000_000), limit);
-        drop(driver);
+    // the limit stops at a sort key, a cite or a work, as it is lower or higher
+    let (mut low, mut high): (u64, u64) = (0, 1_000_000);
+    while high - low > 1 {
+        let middle = (low + high) / 2;
+        match text_within(&rt, alloc, &style, &works, middle) {
+            Some(_) => high = middle,
+            None => low = middle,
+        }
     }
+    assert!(&rt; low > 1_000, "each rendering counts");
+    for eighth in 0..8u64 {
+        let text = text_within(&rt, alloc, &style, &works, low * eighth / 8);
+        assert_of(&rt, &text.is_none(), &true, eighth);
+    }
+    let text = text_within(&rt, alloc, &style, &works, high).expect(&rt, "a list");
+    let wanted = "(Doe, 2014)\n(Doe, 2014; Roe, 2010)\nDoe. 2014. Seas.\nRoe. 2010. Hills.\n";
+    assert_of(&rt, &text.as_str(), &wanted, high);
+    drop(text);
+    drop(works);
+    drop(style);
+}
+
+#[test]
+fn a_style_without_a_bibliography_has_none(rt: HostRuntime) {
+    let alloc = rt.alloc();
+    let (citation, options) = (CitationOptions::new(alloc), BibliographyOptions::new(alloc));
+    let style = ListStyle::new(alloc, of_notes(&rt, alloc), citation, Some(options));
+    let style = style.expect(&rt, "a style");
+    let works = works(&rt, alloc, &["Doe|2014|Seas"]);
+    let list = driver(&rt, alloc, &["0"]).finish(alloc, &style, &works, ListedWorks::All);
+    let list = list.expect(&rt, "a list");
+    assert_of(&rt, &list.bibliography.is_none(), &true, "no bibliography");
+    assert_of(&rt, &style.bibliography().is_some(), &true, "its options");
+    drop(list);
     drop(works);
     drop(style);
 }

@@ -187,6 +187,46 @@ pub(crate) fn of_numbers(rt: &impl Abort, alloc: Global) -> Style {
     Style::new(alloc, settings, Vec::new(alloc), cite, Some(work), locales).expect(rt, "a style")
 }
 
+/// `Doe et al., 2014` in a cite of three authors or more, `Doe and Roe, 2014` in one of two. A title
+/// follows where `disambiguate` holds.
+pub(crate) fn of_some_authors(rt: &impl Abort, alloc: Global) -> Style {
+    let options = InheritableNameOptions {
+        and: Some(NameAnd::Text),
+        delimiter: Some(text(rt, alloc, ", ")),
+        et_al_min: Some(3),
+        et_al_use_first: Some(1),
+        form: Some(NameForm::Short),
+        initialize_with: Some(text(rt, alloc, ".")),
+        ..InheritableNameOptions::default()
+    };
+    let name = Name {
+        options,
+        ..Name::new(alloc)
+    };
+    let names = Names {
+        children: alone(rt, alloc, name.into()),
+        ..Names::new(alloc, alone(rt, alloc, NameVariable::Author))
+    };
+    let branch = ChooseBranch {
+        disambiguate: Some(true),
+        position: None,
+        ..at(rt, alloc, TestPosition::Ibid, title())
+    };
+    let choose = Choose {
+        if_: branch,
+        else_if: Vec::new(alloc),
+        otherwise: None,
+    };
+    let cite = nodes(
+        rt,
+        alloc,
+        names.into(),
+        year(rt, alloc),
+        Some(choose.into()),
+    );
+    style(rt, alloc, group(rt, alloc, ", ", cite), None)
+}
+
 /// `Doe pp. 3-5` in a cite.
 pub(crate) fn of_pages(rt: &impl Abort, alloc: Global) -> Style {
     let variable = NumberOrPageVariable::Number(NumberVariable::Locator);
