@@ -27,11 +27,12 @@ class Citation:
     cites: list[str]
     note: int | None = None
 
-    def line(self, places: dict[str, int], number: int) -> str:
-        """The citation, whose works have these places. Without a note it is the one of a number."""
+    def line(self, places: dict[str, int], number: int | None) -> str:
+        """The citation, whose works have these places. Its note has a number if it names none."""
         forms = [f"(cite {places[name]}{text})" for name, text in zip(self.ids, self.cites)
                  if name in places]
-        return " ".join([*forms, f"note={self.note or number}"])
+        note = self.note or number
+        return " ".join(["citation", *forms, *([f"note={note}"] if note else [])])
 
 
 def alone(names: list[str]) -> Citation:

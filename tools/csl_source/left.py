@@ -12,7 +12,6 @@ SEEN = (
     ("dates are missing that are in words", "dates in words"),
     ("ranges of dates are cut to their first date", "ranges of dates"),
     ("markup inside of titles is dropped", "markup in texts"),
-    ("cites that are alike stay alike, as Doe for A. Doe", "`disambiguate-.*`|`givenname-disambiguation-rule`"),
     ("names are sorted as they print", "`names-(min|use-first|use-last)` of `key`"),
     ("texts before and after names are missing", "affixes of `name`"),
     ("texts before and after a part are formatted like the part", "affixes outside of the formatting"),

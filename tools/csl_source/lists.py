@@ -5,18 +5,14 @@ from csl_source.attributes import Attributes, some, string
 from csl_source.code import Call, Expression, Local, Step, Struct, Vector, comment, function
 from csl_source.document import Node
 
-# The options that `csl_list` has, by the attributes of a citation and of a bibliography.
+# The options, by the attributes of a citation and of a bibliography.
 OPTIONS = {
     "citation": ("collapse", "cite-group-delimiter", "year-suffix-delimiter",
-                 "after-collapse-delimiter", "near-note-distance", "disambiguate-add-year-suffix"),
+                 "after-collapse-delimiter", "near-note-distance", "disambiguate-add-names",
+                 "disambiguate-add-givenname", "givenname-disambiguation-rule",
+                 "disambiguate-add-year-suffix"),
     "bibliography": ("hanging-indent", "second-field-align", "line-spacing", "entry-spacing",
                      "subsequent-author-substitute", "subsequent-author-substitute-rule"),
-}
-# Those that it has not.
-LEFT_OUT = {
-    "citation": ("disambiguate-add-names", "disambiguate-add-givenname",
-                 "givenname-disambiguation-rule"),
-    "bibliography": (),
 }
 DELIMITERS = ("cite-group-delimiter", "year-suffix-delimiter", "after-collapse-delimiter")
 # The texts around a layout, as options. The bibliography has no delimiter.
@@ -35,12 +31,15 @@ def substitute(given: Attributes) -> Struct | None:
 
 
 def options(name: str, given: Attributes) -> Fields:
-    """The options of a citation or of a bibliography. What `csl_list` has not is counted."""
-    given.leave_out(*LEFT_OUT[name])
+    """The options of a citation or of a bibliography."""
     if name == "citation":
         return [("collapse", some(given.variant("collapse", "Collapse"))),
                 *((name.replace("-", "_"), given.string(name)) for name in DELIMITERS),
                 ("near_note_distance", given.number("near-note-distance")),
+                ("adds_names", given.flag("disambiguate-add-names")),
+                ("adds_given_names", given.flag("disambiguate-add-givenname")),
+                ("given_name_rule", given.variant("givenname-disambiguation-rule",
+                                                  "GivenNameRule")),
                 ("adds_year_suffix", given.flag("disambiguate-add-year-suffix"))]
     return [("hanging_indent", given.flag("hanging-indent")),
             ("second_field_align", some(given.variant("second-field-align", "SecondFieldAlign"))),

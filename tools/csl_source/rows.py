@@ -4,7 +4,7 @@ import collections
 import os
 from typing import Callable, Iterable, Iterator, Sequence
 
-from csl_source import library
+from csl_source import library, lists
 from csl_source.attributes import FORMATTING
 from csl_source.code import comment
 from csl_source.document import CS, LANGUAGE, Node, document
@@ -12,7 +12,7 @@ from csl_source.elements import Scope, handed_down
 from csl_source.locales import (OPTIONS, ORDINAL, BuiltIn, built_in, locale_of, locales_in_order,
                                 options_of)
 from csl_source.notation import CONTROL, Form, attribute, filled, in_quotes
-from csl_source.styles import BY_DRIVER, LAYOUTS, TEXTS, Style, info_of, plain
+from csl_source.styles import LAYOUTS, TEXTS, Style, info_of, plain
 
 NAME_OPTIONS = ("and", "delimiter-precedes-et-al", "delimiter-precedes-last", "et-al-min",
                 "et-al-use-first", "et-al-subsequent-min", "et-al-subsequent-use-first",
@@ -279,7 +279,7 @@ class Rows:
         for name in LAYOUTS:
             for node in self.root.below(name):
                 layout = node.below("layout")[0]
-                around = self.attributes(layout, TEXTS) + self.attributes(node, BY_DRIVER[name])
+                around = self.attributes(layout, TEXTS) + self.attributes(node, lists.OPTIONS[name])
                 around += is_note if name == "citation" else []
                 keys = [self.key(key) for key in node.below("sort", "key")]
                 if around:

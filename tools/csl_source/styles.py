@@ -14,8 +14,6 @@ from csl_source.locales import HELPERS, BuiltIn, Locales, locales_in_order, opti
 
 # The layouts of a style, in their order.
 LAYOUTS = ("citation", "bibliography")
-# What a driver does, by the attributes of a citation and of a bibliography.
-BY_DRIVER = {name: lists.OPTIONS[name] + lists.LEFT_OUT[name] for name in LAYOUTS}
 # The texts around a layout, which a driver writes.
 TEXTS = ("prefix", "suffix", "delimiter")
 # A function adds so many macros.

@@ -38,6 +38,7 @@ class Source:
             title = plain(rows.root.findtext("{*}info/{*}title"))
             self.title = title or os.path.basename(path)
             self.language, self.left = rows.language, rows.left
+        self.has_notes = re.search(r"\(around citation [^()]*\bclass=note\b", self.base) is not None
         if len(self.base.encode()) > MOST_BYTES:
             # (names in a substitute repeat what they inherit)
             raise Refused(f"{path}: as rows it has {LARGE}")
@@ -130,12 +131,13 @@ def list_of(answers: Answers) -> List:
     return found
 
 
-def requests(works: list[Item], documents: list[list[Citation]]) -> list[str]:
-    """The requests for the lists of documents of these works. Of two works of one `id` the first is cited."""
+def requests(works: list[Item], documents: list[list[Citation]], has_notes: bool) -> list[str]:
+    """The requests for the lists of documents of these works, whose citations are notes or not. Of two works of one
+    `id` the first is cited."""
     places = {it.id: place for place, it in reversed(list(enumerate(works)))}
     found = [f"work {place} {it.entry}" for place, it in enumerate(works)]
     for cited in documents:
-        found += [f"citation {it.line(places, number)}" for number, it in enumerate(cited, 1)] + ["list"]
+        found += [it.line(places, number if has_notes else None) for number, it in enumerate(cited, 1)] + ["list"]
     return found
 
 
@@ -152,7 +154,7 @@ def lists(program: str, source: Source, works: list[Item], documents: list[list[
           is_told: bool = True) -> tuple[list[Item], list[List]]:
     """The lists of documents in a style, and the works in them. A work that the program refuses is told and left
     out."""
-    with Reader(program, [f"style {source.base}", *requests(works, documents)]) as reader:
+    with Reader(program, [f"style {source.base}", *requests(works, documents, source.has_notes)]) as reader:
         refuse(source, reader.answers() if is_told else [it for it in reader.answers() if it[0] == "fault"])
         faults = [dict(reader.answers()).get("fault") for _ in works]
         if any(faults):

@@ -8,8 +8,8 @@ use crate::names::Named;
 use csl::Style;
 use csl::style::Scope;
 use csl_list::{
-    AuthorSubstitute, BibliographyOptions, CitationOptions, KeySource, ListStyle, SortKey,
-    SubstituteRule,
+    AuthorSubstitute, BibliographyOptions, CitationOptions, GivenNameRule, KeySource, ListStyle,
+    SortKey, SubstituteRule,
 };
 use std::alloc::Global;
 
@@ -103,6 +103,10 @@ fn citation_options(forms: &Forms<'_>) -> Result<CitationOptions, Fault> {
         options.after_collapse_delimiter = own.text("after-collapse-delimiter")?;
         let distance = own.number("near-note-distance")?;
         options.near_note_distance = distance.unwrap_or(options.near_note_distance);
+        options.adds_names = own.is_true("disambiguate-add-names")?;
+        options.adds_given_names = own.is_true("disambiguate-add-givenname")?;
+        let rule: Option<GivenNameRule> = own.choice("givenname-disambiguation-rule")?;
+        options.given_name_rule = rule.unwrap_or(options.given_name_rule);
         options.adds_year_suffix = own.is_true("disambiguate-add-year-suffix")?;
     }
     Ok(options)

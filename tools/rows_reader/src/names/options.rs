@@ -9,7 +9,9 @@ use csl::style::{
     NameAnd, NameAsSortOrder, NameForm, NamePartName, OrdinalMatch, PageRangeFormat, Scope,
     TermForm, TestPosition, TextDecoration, VerticalAlign,
 };
-use csl_list::{CitePurpose, Collapse, ListedWorks, SecondFieldAlign, SubstituteRule};
+use csl_list::{
+    CitePurpose, Collapse, GivenNameRule, ListedWorks, SecondFieldAlign, SubstituteRule,
+};
 
 named! {
     LongShortForm { "long" Long, "short" Short }
@@ -69,6 +71,11 @@ named! {
     Collapse {
         "citation-number" CitationNumber, "year" Year, "year-suffix" YearSuffix,
         "year-suffix-ranged" YearSuffixRanged
+    }
+    GivenNameRule {
+        "all-names" AllNames, "all-names-with-initials" AllNamesWithInitials,
+        "primary-name" PrimaryName, "primary-name-with-initials" PrimaryNameWithInitials,
+        "by-cite" ByCite
     }
     SubstituteRule {
         "complete-all" CompleteAll, "complete-each" CompleteEach, "partial-each" PartialEach,
