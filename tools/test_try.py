@@ -403,6 +403,29 @@ class TrialTests:
         """What `faults` gives of a call that may cost five seconds of a core."""
         return self.faults(*words, seconds=5)
 
+    def test_compare_pandoc(self) -> None:
+        """tools/compare_pandoc over a pandoc that prints what `tools/try` prints, but for the case of a citation, and
+        for a citation and a line."""
+        folder, style = "tools/pandoc_tests", f"{STYLES}/bracketed.csl"
+        text = self.tried(style, f"{folder}/works.json", "--cites", f"{folder}/document.json")[1]
+        cites, lines = (re.findall(r"^(\S.*)\n  (.*)$", it, re.M) for it in text.split("\n\n"))
+        cites[0], cites[5] = (cites[0][0], "[other]"), (cites[5][0], cites[5][1].upper())
+        lines[2] = (lines[2][0], "other")
+        blocks = [{"t": "Cite", "c": [[], [{"t": "Str", "c": it}]]} for _, it in cites]
+        entries = [{"t": "Div", "c": [[f"ref-{name}"], [{"t": "Str", "c": it}]]} for name, it in lines]
+        blocks.append({"t": "Div", "c": [["refs"], entries]})
+        pandoc = self.file("bin/pandoc", f"#!/bin/sh\ncat {self.file('blocks.json', json.dumps({'blocks': blocks}))}\n")
+        os.chmod(pandoc, 0o755)
+        path = {**os.environ, "PATH": f"{self.room}/bin:{os.environ['PATH']}"}
+        causes = self.file("causes", f"pandoc: another\n  bracketed line {lines[2][0]}\n  bracketed citation 7\n")
+        status, text, _ = ran(["tools/compare_pandoc", style, "--causes", causes], env=path)
+        counts = "17 of 18 lines (17 exactly), 15 of 16 citations (14 exactly)"
+        wanted = ["Equal but for case:", f"bracketed: {counts}", f"all: {counts}",
+                  "0 lines, 1 citations: without a cause", "1 lines, 0 citations: pandoc: another", "",
+                  "bracketed: citation 1", "  pandoc [other]", "  here   [1]",
+                  "nothing differs at bracketed citation 7 (pandoc: another)"]
+        self.row("differences from pandoc", (status, text.splitlines()), (1, wanted))
+
     def test_no_kit(self) -> None:
         """Without the kit, and without a program of an earlier call, there is one line."""
         top = f"{self.room}/no_kit"
@@ -448,6 +471,7 @@ class TrialTests:
         self.test_hostile_items()
         self.test_hostile_sizes()
         self.test_missing()
+        self.test_compare_pandoc()
         self.test_no_kit()
         self.test_kept_at_once()
         self.test_many()

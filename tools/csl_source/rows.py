@@ -279,8 +279,9 @@ class Rows:
         for name in LAYOUTS:
             for node in self.root.below(name):
                 layout = node.below("layout")[0]
-                around = self.attributes(layout, TEXTS) + self.attributes(node, lists.OPTIONS[name])
-                around += is_note if name == "citation" else []
+                around = is_note if name == "citation" else []
+                around = [*around, *self.attributes(layout, TEXTS),
+                          *self.attributes(node, lists.OPTIONS[name])]
                 keys = [self.key(key) for key in node.below("sort", "key")]
                 if around:
                     yield Form(f"around {name}", around)

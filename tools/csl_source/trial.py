@@ -38,7 +38,7 @@ class Source:
             title = plain(rows.root.findtext("{*}info/{*}title"))
             self.title = title or os.path.basename(path)
             self.language, self.left = rows.language, rows.left
-        self.has_notes = re.search(r"\(around citation [^()]*\bclass=note\b", self.base) is not None
+        self.has_notes = "(around citation class=note" in self.base
         if len(self.base.encode()) > MOST_BYTES:
             # (names in a substitute repeat what they inherit)
             raise Refused(f"{path}: as rows it has {LARGE}")
