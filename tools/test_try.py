@@ -313,14 +313,14 @@ class TrialTests:
         path = self.file("cites.json", json.dumps([it for it, _ in CITES]))
         status, text, faults = self.tried(*words, path)
         cited, _, listed = text.partition("\n\n")
-        given = re.findall(r"^(?:[ab](?:, [ab])*)?\n((?:  .*)?)", cited, re.M)
+        given = re.findall(r"^(?:[ab](?:, [ab])*|\(no cites\))\n?((?:  .*)?)", cited, re.M)
         self.row("cites", (status, [it.strip() for it in given], len(faults)), (0, [text for _, text in CITES], 1))
         self.row("the list after cites", listed, "a\n  Ode (2014). T.\nb\n  Poe (2015). T.\n")
         path = self.file("cites.json", json.dumps([it for it, _ in WRONG_CITES]))
         told = [f"{path}: citation {place}: {why}" for place, (_, why) in enumerate(WRONG_CITES, 1)]
         self.row("wrong cites", citations(path, {"a", "b"})[1], told)
         status, text, faults = self.faults(*words, path)
-        self.row("wrong cites are told", (status, faults, text[-21:]), (1, told, "b\n  Poe (2015). T.\n"))
+        self.row("wrong cites are told", (status, faults, text[-19:]), (1, told, "b\n  Poe (2015). T.\n"))
         for content, why in ("{", "no JSON: Expecting property name enclosed in double quotes: line 1 column 2 (char 1)"), \
                 ("{}", 'no list of citations, as [[{"id": "kwan"}]]'):
             path = self.file("cites.json", content)

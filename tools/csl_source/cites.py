@@ -55,7 +55,7 @@ def cite(value: Any, mode: str) -> tuple[str, str]:
         label = value.get("label") or "page"
         if label not in library.locators():
             raise Wrong(f"the label {named(str(label))} is unknown")
-        label = f'"{label}"' if " " in label else label
+        label = library.OTHER_SPELLINGS.get(label, label)
         words.append(f" (locator {label} {in_quotes(cleaned(str(value['locator'])))})")
     return cleaned(str(value["id"])), "".join(words)
 
