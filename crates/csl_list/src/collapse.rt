@@ -53,7 +53,6 @@ pub(crate) enum Delimiter {
 #[derive(Clone, Copy)]
 pub(crate) enum CitePart {
     Whole,
-    Author,
     WithoutNames,
     YearSuffix,
     Nothing,

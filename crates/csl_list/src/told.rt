@@ -1,7 +1,7 @@
 //! First cites that are told apart by their names (CSL 1.0.2, Disambiguation:
 //! disambiguate-add-names, disambiguate-add-givenname, givenname-disambiguation-rule).
 
-ghost use Rattle.std.specs.Prelude.{◌≡◌, ◌<◌, IfOk, IfErr, OnOk, length};
+ghost use Rattle.std.specs.Prelude.{◌≡◌, ◌<◌, IfOk, IfErr, length};
 ghost use Rattle.std.specs.List.{All};
 ghost use Rattle.csl_list.specs.Errors.{IsListingError};
 ghost use Rattle.csl_list.specs.Told as spec;
@@ -12,6 +12,7 @@ use crate::given_names::{cited_names, steps_of_names};
 use crate::identity::{Identity, number_at};
 use crate::options::{CitationOptions, GivenNameRule};
 use crate::substitute::whole_names;
+use crate::told_names::{AddedNames, added_names};
 use csl::{Rendered, Renderer};
 use csl_common::Memory;
 use csl_entry::{
@@ -32,6 +33,8 @@ pub(crate) struct ToldCite {
     pub forms: Option<NameDisambiguationProperties>,
     /// Whether they are not the forms that the style itself gives.
     pub is_named: bool,
+    /// The names in these forms, if they are not the style's.
+    pub added: Option<AddedNames>,
 }
 
 /// More of the names of a cite.
@@ -61,12 +64,17 @@ fn cite_in_state<T: EntryLike>(
             ..first.speculative
         },
     };
+    let is_named = matches!(
+        props.speculative.disambiguation,
+        DisambiguateState::NameDisambiguation(_)
+    );
     let Rendered { content, state } = renderer.cite(alloc, work, &props)?;
     Ok(ToldCite {
         text: content.to_text(alloc, BufWriteFormat::Plain)?,
         names: whole_names(alloc, &content)?,
         forms: state.first_names,
         is_named: false,
+        added: added_names(alloc, &content, is_named)?,
     })
 }
 
@@ -82,12 +90,18 @@ fn named_cite<T: EntryLike>(
 {
     let state = DisambiguateState::NameDisambiguation(forms.clone(alloc)?);
     let cite = cite_in_state(alloc, renderer, work, place, state)?;
-    let ToldCite { text, names, .. } = cite;
+    let ToldCite {
+        text,
+        names,
+        added,
+        ..
+    } = cite;
     Ok(ToldCite {
         text,
         names,
         forms: Some(forms),
         is_named: true,
+        added,
     })
 }
 
@@ -346,7 +360,6 @@ fn show_more<T: EntryLike>(
     more: More,
 ) -> Result<(), ListError>
     requires order { All (λ work. work < length works.now) order.now }
-    ensures len { OnOk result (length told.new.items ≡ length told.old.items) }
     ensures err { IfErr result IsListingError }
 {
     let firsts = first_equal_cites(alloc, told, places)?;
@@ -380,7 +393,6 @@ fn add_names<T: EntryLike>(
     told: &mut Vec<ToldCite>,
 ) -> Result<(), ListError>
     requires order { All (λ work. work < length works.now) order.now }
-    ensures len { OnOk result (length told.new.items ≡ length told.old.items) }
     ensures err { IfErr result IsListingError }
 {
     let all = all_places(alloc, told.len())?;
@@ -403,7 +415,6 @@ fn add_given_names<T: EntryLike>(
     told: &mut Vec<ToldCite>,
 ) -> Result<(), ListError>
     requires order { All (λ work. work < length works.now) order.now }
-    ensures len { OnOk result (length told.new.items ≡ length told.old.items) }
     ensures err { IfErr result IsListingError }
 {
     let all = all_places(alloc, told.len())?;
@@ -455,7 +466,6 @@ fn expand_names<T: EntryLike>(
     most: usize,
 ) -> Result<(), ListError>
     requires order { All (λ work. work < length works.now) order.now }
-    ensures len { OnOk result (length told.new.items ≡ length told.old.items) }
     ensures err { IfErr result IsListingError }
 {
     let names = cited_names(alloc, works, order, told, is_primary)?;
