@@ -263,6 +263,12 @@ fn fuller_cite<T: EntryLike>(
     }
 }
 
+/// The work at a place of a list.
+fn work_at<'w, T>(works: &'w [T], order: &[usize], place: usize) -> Option<&'w T> {
+    let work = order.get(place)?;
+    works.get(*work)
+}
+
 /// The cites at these places with more of their names.
 fn fuller_cites<T: EntryLike>(
     alloc: Global,
@@ -273,20 +279,12 @@ fn fuller_cites<T: EntryLike>(
     places: &[usize],
     more: More,
 ) -> Result<Vec<Option<ToldCite>>, ListError>
-    requires order { All (λ work. work < length works.now) order.now }
     ensures err { IfErr result IsListingError }
 {
     let mut fuller = Vec::with_capacity(alloc, places.len())?;
     for place in places {
-        fuller.push(match (order.get(*place), told.get(*place)) {
-            (Some(work), Some(own)) => fuller_cite(
-                alloc,
-                renderer,
-                &works[*work],
-                *place,
-                own,
-                more,
-            )?,
+        fuller.push(match (work_at(works, order, *place), told.get(*place)) {
+            (Some(work), Some(own)) => fuller_cite(alloc, renderer, work, *place, own, more)?,
             _ => None,
         })?;
     }
@@ -359,7 +357,6 @@ fn show_more<T: EntryLike>(
     places: &[usize],
     more: More,
 ) -> Result<(), ListError>
-    requires order { All (λ work. work < length works.now) order.now }
     ensures err { IfErr result IsListingError }
 {
     let firsts = first_equal_cites(alloc, told, places)?;
@@ -392,7 +389,6 @@ fn add_names<T: EntryLike>(
     order: &[usize],
     told: &mut Vec<ToldCite>,
 ) -> Result<(), ListError>
-    requires order { All (λ work. work < length works.now) order.now }
     ensures err { IfErr result IsListingError }
 {
     let all = all_places(alloc, told.len())?;
@@ -414,7 +410,6 @@ fn add_given_names<T: EntryLike>(
     order: &[usize],
     told: &mut Vec<ToldCite>,
 ) -> Result<(), ListError>
-    requires order { All (λ work. work < length works.now) order.now }
     ensures err { IfErr result IsListingError }
 {
     let all = all_places(alloc, told.len())?;
@@ -504,14 +499,13 @@ fn with_expanded<T: EntryLike>(
     order: &[usize],
     told: Vec<ToldCite>,
 ) -> Result<Vec<ToldCite>, ListError>
-    requires order { All (λ work. work < length works.now) order.now }
     ensures err { IfErr result IsListingError }
 {
     let mut anew = Vec::with_capacity(alloc, told.len())?;
     for cite in told {
         let place = anew.len();
-        anew.push(match order.get(place) {
-            Some(work) => rendered_anew(alloc, renderer, &works[*work], place, cite)?,
+        anew.push(match work_at(works, order, place) {
+            Some(work) => rendered_anew(alloc, renderer, work, place, cite)?,
             None => cite,
         })?;
     }
@@ -553,14 +547,13 @@ fn chosen_cites<T: EntryLike>(
     order: &[usize],
     places: &[usize],
 ) -> Result<Vec<Option<ToldCite>>, ListError>
-    requires order { All (λ work. work < length works.now) order.now }
     ensures err { IfErr result IsListingError }
 {
     let mut chosen = Vec::with_capacity(alloc, places.len())?;
     for place in places {
-        chosen.push(match order.get(*place) {
+        chosen.push(match work_at(works, order, *place) {
             Some(work) => {
-                let (work, state) = (&works[*work], DisambiguateState::Choose);
+                let state = DisambiguateState::Choose;
                 Some(cite_in_state(alloc, renderer, work, *place, state)?)
             }
             None => None,
@@ -578,7 +571,6 @@ pub(crate) fn choices<T: EntryLike>(
     order: &[usize],
     told: &[ToldCite],
 ) -> Result<Vec<bool>, ListError>
-    requires order { All (λ work. work < length works.now) order.now }
     ensures err { IfErr result IsListingError }
 {
     let all = all_places(alloc, told.len())?;
