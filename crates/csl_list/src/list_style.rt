@@ -148,6 +148,7 @@ impl ListStyle {
     /// # Errors
     /// [`ListStyleError::Memory`]: out of memory.
     /// [`ListStyleError::NoSuchMacro`]: a key is by a macro that the style lacks.
+    #[tactic(auto, using(crate::proofs::Refusals::by_citation, crate::proofs::Refusals::by_bibliography))]
     pub fn new(
         alloc: Global,
         style: Style,
