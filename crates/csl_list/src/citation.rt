@@ -293,8 +293,8 @@ fn unfinished_citation<T: EntryLike>(
     Ok(content)
 }
 
-/// The indices of the cites of a citation in the order in which they are printed: by their keys, and
-/// then those of the same names together, if the style has it so.
+/// The indices of the cites of a citation in the order in which they are printed: by their keys,
+/// and then those of the same names together, if the style has it so.
 fn cite_order<T: EntryLike>(
     alloc: Global,
     renderer: &mut Renderer<'_>,

@@ -361,7 +361,8 @@ fn names_of(item: &CitationItem<'_>, identities: &[Identity]) -> Option<usize> {
     identity.likeness.names
 }
 
-/// For each cite of a citation, in this order, a number that it shares with those of the same names.
+/// For each cite of a citation, in this order, a number that it shares with those of the same
+/// names.
 fn names_keys(
     alloc: Global,
     items: &[CitationItem<'_>],

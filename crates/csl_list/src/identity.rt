@@ -79,8 +79,8 @@ impl Identity {
         }
     }
 
-    /// How cites of the work are told apart from those of others: by a year suffix, by branches that
-    /// test `disambiguate`, or else by forms of its names, if there are some.
+    /// How cites of the work are told apart from those of others: by a year suffix, by branches
+    /// that test `disambiguate`, or else by forms of its names, if there are some.
     pub fn told_by(
         self,
         alloc: Global,

@@ -587,7 +587,8 @@ pub(crate) fn choices<T: EntryLike>(
     Ok(choices)
 }
 
-/// The forms of the names of the work at a place, if they are not those that the style itself gives.
+/// The forms of the names of the work at a place, if they are not those that the style itself
+/// gives.
 pub(crate) fn forms_at(told: &[ToldCite], place: usize) -> Option<&NameDisambiguationProperties> {
     match told.get(place) {
         Some(cite) if cite.is_named => cite.forms.as_ref(),

@@ -1,5 +1,5 @@
-//! Names that tell a work apart beside its year suffix. Rendering tells a cite apart by a suffix or by
-//! the forms of its names, so a cite with a suffix gets its names from one without it.
+//! Names that tell a work apart beside its year suffix. Rendering tells a cite apart by a suffix or
+//! by the forms of its names, so a cite with a suffix gets its names from one without it.
 
 use crate::identity::Identity;
 use crate::told::ToldCite;
