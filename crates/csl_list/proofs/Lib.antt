@@ -3,4 +3,5 @@ pub mod Counts
 pub mod Firsts
 pub mod KeysWithin
 pub mod Orders
+pub mod Refusals
 pub mod Works

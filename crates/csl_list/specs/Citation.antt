@@ -2,10 +2,10 @@
 -- prints anything between the texts of its author, with a delimiter before it if it is not the first. Each cite is an element
 -- with the index of its work. The texts of the style stand around them, unless the first cite shows
 -- its author, its year or its work alone. If its author stands in the text, this comes first.
-use Rattle.std.specs.Prelude.{◌≡◌, ℕ, Bool, true, false, not, ◌&&◌, ◌+◌, ◌∷◌, ◌++◌, List, [], Option, Some, None, codes, is_none, option_map, slice_get, string_bytes, if◌then◌else◌}
+use Rattle.std.specs.Prelude.{ℕ, Bool, true, false, not, ◌&&◌, ◌+◌, ◌∷◌, ◌++◌, List, [], Option, Some, None, codes, is_some, option_copied, option_map, slice_get, string_bytes, if◌then◌else◌}
 use Rattle.csl_entry.specs.Answers.{Answers}
-use Rattle.csl_entry.specs.Cite.{CiteState, locator_view}
-use Rattle.csl_entry.specs.Numbers.{note_number}
+use Rattle.csl_entry.specs.Cite.{CiteState, first_cite, locator_view}
+use Rattle.csl_entry.specs.Numbers.{citation_number, note_number}
 use Rattle.csl_style.specs.Style.{StyleParts}
 use Rattle.csl_tree.specs.Tokens.{Token, has_content, tokens}
 use Rattle.csl_tree.specs.declared.elem.ElemChildren.{ElemChildren}
@@ -14,21 +14,23 @@ use Rattle.csl_tree.specs.declared.formatting.Formatting.{Formatting}
 use Rattle.csl_entry.specs.declared.citation.cite.SpecialForm.TheVariants as forms
 use Rattle.csl_list.specs.CiteContent.{citation_content, cite_content}
 use Rattle.csl_list.specs.Collapse.{delimiter_text, joint_at}
-use Rattle.csl_list.specs.Identity.{first_cite_of}
+use Rattle.csl_list.specs.Identity.{told_by, unmarked}
 use Rattle.csl_list.specs.Pieces.{text_of, entry_around}
 use Rattle.csl_list.specs.declared.citation.PositionedCite.{PositionedCite}
 use Rattle.csl_list.specs.declared.collapse.CiteLink.{CiteLink}
 use Rattle.csl_list.specs.declared.collapse.CitePart.{CitePart}
 use Rattle.csl_list.specs.declared.collapse.CitePart.TheVariants as parts
 use Rattle.csl_list.specs.declared.collapse.Joint.{Joint}
+use Rattle.csl_list.specs.declared.identity.Identity.{Identity}
 use Rattle.csl_list.specs.declared.options.CitationOptions.{CitationOptions}
 use Rattle.csl_list.specs.declared.request.CitationItem.{CitationItem}
 use Rattle.csl_list.specs.declared.request.CitePurpose.{CitePurpose}
 use Rattle.csl_list.specs.declared.request.CitePurpose.TheVariants as purposes
 
--- the state of a cite
-abbrev pub state_of : {T : Type 0} → PositionedCite T → CiteState
-state_of cite = record (first_cite_of cite.identity) {
+-- the state of a cite of a work with this identity
+abbrev pub state_by : {T : Type 0} → PositionedCite T → Identity → CiteState
+state_by cite identity = record (first_cite (told_by identity (option_copied cite.forms))) {
+  citation_number = citation_number identity.number;
   first_note = option_map note_number cite.position.first_note;
   is_first = cite.position.is_first;
   is_near_note = cite.position.is_near_note;
@@ -37,21 +39,15 @@ state_of cite = record (first_cite_of cite.identity) {
   ibid = cite.position.ibid;
 }
 
--- the forms of its names are those that the style itself gives
-abbrev pub HasOwnForms : {T : Type 0} → PositionedCite T → Type 0
-HasOwnForms cite = is_none cite.forms ≡ true
+abbrev pub state_of : {T : Type 0} → PositionedCite T → CiteState
+state_of cite = state_by cite cite.identity
 
--- a part of a cite in a state
-abbrev pub part_content : {T : Type 0} → (T → Answers) → StyleParts → CitePart → CiteState → PositionedCite T → List Token
-part_content answers style parts.Whole state cite = cite_content style state cite.item.now.purpose (answers cite.work.now)
-part_content answers style parts.Author state cite = cite_content style state (Some purposes.Author) (answers cite.work.now)
-part_content answers style parts.WithoutNames state cite = citation_content style state (Some forms.SuppressAuthor) (answers cite.work.now)
-part_content answers style parts.YearSuffix state cite = citation_content style state (Some forms.OnlyYearSuffix) (answers cite.work.now)
-part_content answers style parts.Nothing state cite = []
-
--- a part of a cite that has the style's forms of names
+-- the part of a cite that its citation prints
 abbrev pub content_of : {T : Type 0} → (T → Answers) → StyleParts → CitePart → PositionedCite T → List Token
-content_of answers style part cite = part_content answers style part (state_of cite) cite
+content_of answers style parts.Whole cite = cite_content style (state_of cite) cite.item.now.purpose (answers cite.work.now)
+content_of answers style parts.WithoutNames cite = citation_content style (state_of cite) (Some forms.SuppressAuthor) (answers cite.work.now)
+content_of answers style parts.YearSuffix cite = citation_content style (state_of cite) (Some forms.OnlyYearSuffix) (answers cite.work.now)
+content_of answers style parts.Nothing cite = []
 
 abbrev pub affix_of : Option ElemChildren → List Token
 affix_of None = []
@@ -104,10 +100,14 @@ is_prose (Some purposes.SuppressAuthor) = false
 abbrev pub with_space : List Token → List Token
 with_space author = if has_content author then author ++ text_of (codes " ") default_formatting else []
 
+-- An author in the text is told apart by the forms of its names, if there are some.
+abbrev pub author_identity : {T : Type 0} → PositionedCite T → Identity
+author_identity cite = if is_some (option_copied cite.forms) then unmarked cite.identity else cite.identity
+
 -- the author of a cite whose author stands in the text
 abbrev pub author_of : {T : Type 0} → (T → Answers) → StyleParts → PositionedCite T → List Token
 author_of answers style cite =
-    if is_prose cite.item.now.purpose then with_space (content_of answers style parts.Author cite) else []
+    if is_prose cite.item.now.purpose then with_space (cite_content style (state_by cite (author_identity cite)) (Some purposes.Author) (answers cite.work.now)) else []
 
 -- the cites between the texts of the style, if the first of them wants these and they print anything
 abbrev pub between_affixes : CitationOptions → Formatting → Option CitePurpose → List Token → List Token

@@ -8,6 +8,7 @@ pub mod Errors
 pub mod Identity
 pub mod Listed
 pub mod ListStyle
+pub mod Locator
 pub mod Options
 pub mod Pieces
 pub mod Position

@@ -1,6 +1,6 @@
 -- A style with its options for a document. Each key by a macro calls one that the style has. Else it
 -- is refused at the first key that does not, and those of the citation come first.
-use Rattle.std.specs.Prelude.{◌≡◌, ◌<◌, ⊤, ℕ, Bool, true, false, List, [], length, Option, Some, None, is_none, string_bytes}
+use Rattle.std.specs.Prelude.{◌≡◌, ◌<◌, ◌⊎◌, ⊤, ℕ, Bool, true, false, List, [], length, Option, Some, None, is_none, string_bytes}
 use Rattle.std.specs.List.{All, AllWithin, HoldsAt}
 use Rattle.csl_elements.specs.View.{Definition}
 use Rattle.csl_style.specs.AllWithin.{IsAllWithin, IsLayoutWithin}
@@ -46,13 +46,10 @@ abbrev pub keys_of : Option BibliographyOptions → List SortKey
 keys_of None = []
 keys_of (Some options) = options.keys.items
 
-abbrev pub IsRefusalIn : List Definition → List SortKey → List SortKey → Scope → ℕ → Type 0
-IsRefusalIn macros citation bibliography scopes.Citation place = IsFirstUnknown macros citation place
-IsRefusalIn macros citation bibliography scopes.Bibliography place = All (IsKnown macros) citation × IsFirstUnknown macros bibliography place
-
 abbrev pub IsRefusal : List Definition → List SortKey → List SortKey → ListStyleError → Type 0
-IsRefusal macros citation bibliography Memory = ⊤
-IsRefusal macros citation bibliography (NoSuchMacro scope place) = IsRefusalIn macros citation bibliography scope place
+IsRefusal macros citation bibliography error =
+    IsRefusalOf macros scopes.Citation citation error
+    ⊎ (All (IsKnown macros) citation × IsRefusalOf macros scopes.Bibliography bibliography error)
 
 -- each layout of a key is within the limits
 abbrev pub AreKeysWithin : StyleParts → ℕ → ℕ → ℕ → List KeyLayout → Type 0

@@ -24,11 +24,12 @@ use crate::position::{CitesSoFar, PlacedCite, Position};
 use crate::rendered::RenderedCitation;
 use crate::request::{CitationItem, CitationRequest, CitePurpose};
 use crate::told::{ToldCite, forms_at};
+use crate::told_names::put_added_names;
 use csl::Renderer;
 use csl_common::Memory;
 use csl_entry::{
-    CertainCiteProperties, CiteProperties, DisambiguateState, EntryLike,
-    NameDisambiguationProperties, SpecialForm, SpecificLocator, SpeculativeCiteProperties,
+    CertainCiteProperties, CiteProperties, EntryLike, NameDisambiguationProperties, SpecialForm,
+    SpecificLocator, SpeculativeCiteProperties,
 };
 use csl_finish::finish;
 use csl_tree::{ElemChildren, Formatting};
@@ -49,12 +50,17 @@ pub(crate) struct PositionedCite<'a, 'd, T> {
     pub forms: Option<&'a NameDisambiguationProperties>,
 }
 
-/// The properties of a cite.
-fn props_of<'a, T>(cite: &PositionedCite<'a, '_, T>) -> CiteProperties<'a>
-    ensures { cite_state result ≡ spec.state_of cite.now }
+/// The properties of a cite of a work with this identity.
+fn props_by<'a, T>(
+    alloc: Global,
+    cite: &PositionedCite<'a, '_, T>,
+    identity: Identity,
+) -> Result<CiteProperties<'a>, Memory>
+    ensures { IfOk result (λ props. cite_state props ≡ spec.state_by cite.now identity) }
 {
-    let (position, first) = (cite.position, cite.identity.first_cite());
-    CiteProperties {
+    let (position, first) = (cite.position, identity.first_cite());
+    let disambiguation = identity.told_by(alloc, cite.forms)?;
+    Ok(CiteProperties {
         certain: CertainCiteProperties {
             first_note_number: position.first_note,
             is_first: position.is_first,
@@ -64,99 +70,37 @@ fn props_of<'a, T>(cite: &PositionedCite<'a, '_, T>) -> CiteProperties<'a>
         speculative: SpeculativeCiteProperties {
             locator: cite.locator,
             ibid: position.ibid,
-            ..first.speculative
-        },
-    }
-}
-
-/// A part of a cite with these properties.
-fn part_content<T: EntryLike>(
-    alloc: Global,
-    renderer: &mut Renderer<'_>,
-    cite: &PositionedCite<'_, '_, T>,
-    props: &CiteProperties<'_>,
-    part: CitePart,
-) -> Result<ElemChildren, ListError>
-    ensures ok { IfOk result (λ content. tokens content
-        ≡ spec.part_content T.answers renderer.old.style part (cite_state props.now) cite.now) }
-    ensures style { renderer.new.style ≡ renderer.old.style }
-    ensures err { IfErr result IsListingError }
-{
-    let work = cite.work;
-    match part {
-        CitePart::Whole => cite_content(alloc, renderer, work, props, cite.item.purpose),
-        CitePart::Author => {
-            let purpose = Some(CitePurpose::Author);
-            cite_content(alloc, renderer, work, props, purpose)
-        }
-        CitePart::WithoutNames => {
-            let form = Some(SpecialForm::SuppressAuthor);
-            citation_content(alloc, renderer, work, props, form)
-        }
-        CitePart::YearSuffix => {
-            let form = Some(SpecialForm::OnlyYearSuffix);
-            citation_content(alloc, renderer, work, props, form)
-        }
-        CitePart::Nothing => Ok(ElemChildren::new(alloc)),
-    }
-}
-
-/// The properties with forms of names in the place of a year suffix.
-fn with_forms<'d>(
-    alloc: Global,
-    props: CiteProperties<'d>,
-    forms: &NameDisambiguationProperties,
-) -> Result<CiteProperties<'d>, Memory> {
-    let disambiguation = DisambiguateState::NameDisambiguation(forms.clone(alloc)?);
-    Ok(CiteProperties {
-        certain: props.certain,
-        speculative: SpeculativeCiteProperties {
             disambiguation,
-            ..props.speculative
+            ..first.speculative
         },
     })
 }
 
-/// A content with the first names of another one in the place of its own, if both have names.
-fn with_names_of(
-    alloc: Global,
-    content: ElemChildren,
-    named: &ElemChildren,
-) -> Result<ElemChildren, Memory> {
-    let mut content = content;
-    let Some(names) = named.find_names() else {
-        return Ok(content);
-    };
-    let names = names.children.clone(alloc)?;
-    if let Some(own) = content.find_names_mut() {
-        own.children = names;
-    }
-    Ok(content)
-}
-
-/// A part of a cite. A cite has either a year suffix or forms of names, so if both tell it apart,
-/// the names are those of the cite without its suffix.
+/// What a citation prints of a cite.
 fn content_of<T: EntryLike>(
     alloc: Global,
     renderer: &mut Renderer<'_>,
     cite: &PositionedCite<'_, '_, T>,
     part: CitePart,
 ) -> Result<ElemChildren, ListError>
-    ensures ok { spec.HasOwnForms cite.now → IfOk result (λ content. tokens content
+    ensures ok { IfOk result (λ content. tokens content
         ≡ spec.content_of T.answers renderer.old.style part cite.now) }
     ensures style { renderer.new.style ≡ renderer.old.style }
     ensures err { IfErr result IsListingError }
 {
-    let Some(forms) = cite.forms else {
-        return part_content(alloc, renderer, cite, &props_of(cite), part);
-    };
-    let props = with_forms(alloc, props_of(cite), forms)?;
-    let named = part_content(alloc, renderer, cite, &props, part)?;
-    if cite.identity.year_suffix.is_none() && !cite.identity.chooses {
-        return Ok(named);
+    let (props, work) = (props_by(alloc, cite, cite.identity)?, cite.work);
+    match part {
+        CitePart::Whole => cite_content(alloc, renderer, work, &props, cite.item.purpose),
+        CitePart::WithoutNames => {
+            let form = Some(SpecialForm::SuppressAuthor);
+            citation_content(alloc, renderer, work, &props, form)
+        }
+        CitePart::YearSuffix => {
+            let form = Some(SpecialForm::OnlyYearSuffix);
+            citation_content(alloc, renderer, work, &props, form)
+        }
+        CitePart::Nothing => Ok(ElemChildren::new(alloc)),
     }
-    let content = part_content(alloc, renderer, cite, &props_of(cite), part)?;
-    Ok(with_names_of(alloc, content, &named)?)
 }
 
 /// Adds a text of the author, if there is one.
@@ -226,9 +170,8 @@ fn cites_in_a_row<T: EntryLike>(
     cites: &[PositionedCite<'_, '_, T>],
 ) -> Result<ElemChildren, ListError>
     requires { length links.now ≡ length cites.now }
-    ensures ok { All spec.HasOwnForms cites.now → IfOk result (λ content. tokens content
-        ≡ spec.cites_after T.answers renderer.old.style options.now formatting links.now 0 []
-        cites.now) }
+    ensures ok { IfOk result (λ content. tokens content ≡ spec.cites_after T.answers
+        renderer.old.style options.now formatting links.now 0 [] cites.now) }
     ensures style { renderer.new.style ≡ renderer.old.style }
     ensures err { IfErr result IsListingError }
 {
@@ -280,13 +223,14 @@ fn with_space(alloc: Global, author: ElemChildren) -> Result<ElemChildren, Memor
     Ok(content)
 }
 
-/// The author of a cite in prose, and a space. It is empty for other cites.
+/// The author of a cite in prose, and a space. It is empty for other cites. Forms of names tell it
+/// apart without a year suffix.
 fn author_in_text<T: EntryLike>(
     alloc: Global,
     renderer: &mut Renderer<'_>,
     cite: &PositionedCite<'_, '_, T>,
 ) -> Result<ElemChildren, ListError>
-    ensures ok { spec.HasOwnForms cite.now → IfOk result (λ content. tokens content
+    ensures ok { IfOk result (λ content. tokens content
         ≡ spec.author_of T.answers renderer.old.style cite.now) }
     ensures style { renderer.new.style ≡ renderer.old.style }
     ensures err { IfErr result IsListingError }
@@ -294,7 +238,13 @@ fn author_in_text<T: EntryLike>(
     if !is_prose(cite.item.purpose) {
         return Ok(ElemChildren::new(alloc));
     }
-    let author = content_of(alloc, renderer, cite, CitePart::Author)?;
+    let identity = if cite.forms.is_some() {
+        cite.identity.unmarked()
+    } else {
+        cite.identity
+    };
+    let (props, author) = (props_by(alloc, cite, identity)?, Some(CitePurpose::Author));
+    let author = cite_content(alloc, renderer, cite.work, &props, author)?;
     Ok(with_space(alloc, author)?)
 }
 
@@ -329,9 +279,8 @@ fn unfinished_citation<T: EntryLike>(
     cites: &[PositionedCite<'_, '_, T>],
 ) -> Result<ElemChildren, ListError>
     requires { length links.now ≡ length cites.now }
-    ensures ok { All spec.HasOwnForms cites.now → IfOk result (λ content. tokens content
-        ≡ spec.unfinished_citation T.answers renderer.old.style options.now formatting links.now
-        cites.now) }
+    ensures ok { IfOk result (λ content. tokens content ≡ spec.unfinished_citation T.answers
+        renderer.old.style options.now formatting links.now cites.now) }
     ensures err { IfErr result IsListingError }
 {
     let inside = cites_in_a_row(alloc, renderer, options, formatting, links, cites)?;
@@ -344,8 +293,8 @@ fn unfinished_citation<T: EntryLike>(
     Ok(content)
 }
 
-/// The indices of the cites of a citation in the order in which they are printed: by their keys, and
-/// then those of the same names together, if the style has it so.
+/// The indices of the cites of a citation in the order in which they are printed: by their keys,
+/// and then those of the same names together, if the style has it so.
 fn cite_order<T: EntryLike>(
     alloc: Global,
     renderer: &mut Renderer<'_>,
@@ -437,6 +386,7 @@ pub(crate) fn rendered_citation<'d, T: EntryLike>(
     let links = links_of(alloc, options, &cites)?;
     let formatting = Formatting::default().apply(style.style().citation().formatting);
     let mut content = unfinished_citation(alloc, renderer, options, formatting, &links, &cites)?;
+    put_added_names(alloc, &mut content, identities, told)?;
     delimit_ranges(alloc, &mut content, range_delimiter(style.style()))?;
     finish(alloc, style.style(), &mut content)?;
     Ok(RenderedCitation {

@@ -53,7 +53,6 @@ pub(crate) enum Delimiter {
 #[derive(Clone, Copy)]
 pub(crate) enum CitePart {
     Whole,
-    Author,
     WithoutNames,
     YearSuffix,
     Nothing,
@@ -243,8 +242,9 @@ fn link_in_range(before: CiteLink, link: CiteLink, after: CiteLink) -> CiteLink
 
 /// The links without ranges of two cites.
 fn with_long_ranges(alloc: Global, links: &[CiteLink]) -> Result<Vec<CiteLink>, Memory>
-    ensures { IfOk result (λ long. long.items
+    ensures links { IfOk result (λ long. long.items
         ≡ map (spec.long_at links.now) (range_with_len 0 (length links.now))) }
+    ensures len { IfOk result (λ long. length long.items ≡ length links.now) }
 {
     let mut long = Vec::with_capacity(alloc, links.len())?;
     for (i, link) in links.iter().enumerate() {
@@ -361,7 +361,8 @@ fn names_of(item: &CitationItem<'_>, identities: &[Identity]) -> Option<usize> {
     identity.likeness.names
 }
 
-/// For each cite of a citation, in this order, a number that it shares with those of the same names.
+/// For each cite of a citation, in this order, a number that it shares with those of the same
+/// names.
 fn names_keys(
     alloc: Global,
     items: &[CitationItem<'_>],

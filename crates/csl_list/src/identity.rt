@@ -1,7 +1,7 @@
 //! What the cites of a work print of the list: its number, and its year suffix (CSL 1.0.2, Number
 //! Variables: citation-number; Disambiguation).
 
-ghost use Rattle.std.specs.Prelude.{◌≡◌, None, false, IfOk, IfErr, length};
+ghost use Rattle.std.specs.Prelude.{◌≡◌, None, false, IfOk, IfErr, length, option_copied};
 ghost use Rattle.csl_entry.specs.Cite.{cite_state, disambiguation_of};
 ghost use Rattle.csl_entry.specs.Numbers.{citation_number};
 ghost use Rattle.csl_list.specs.declared.error.ListError.TheVariants as errors;
@@ -9,7 +9,11 @@ ghost use Rattle.csl_list.specs.Errors.{IsListingError};
 ghost use Rattle.csl_list.specs.Identity as spec;
 
 use crate::error::ListError;
-use csl_entry::{CitationNumber, CiteProperties, DisambiguateState, SpeculativeCiteProperties};
+use csl_common::Memory;
+use csl_entry::{
+    CitationNumber, CiteProperties, DisambiguateState, NameDisambiguationProperties,
+    SpeculativeCiteProperties,
+};
 use std::alloc::Global;
 
 /// The works of a list that the first cite of a work is like.
@@ -61,6 +65,36 @@ impl Identity {
             year_suffix: None,
             chooses: false,
             likeness: UNLIKE,
+        }
+    }
+
+    /// The identity without what tells the work apart from those with the same cite.
+    pub fn unmarked(self) -> Identity
+        ensures { result ≡ spec.unmarked self }
+    {
+        Identity {
+            year_suffix: None,
+            chooses: false,
+            ..self
+        }
+    }
+
+    /// How cites of the work are told apart from those of others: by a year suffix, by branches
+    /// that test `disambiguate`, or else by forms of its names, if there are some.
+    pub fn told_by(
+        self,
+        alloc: Global,
+        forms: Option<&NameDisambiguationProperties>,
+    ) -> Result<DisambiguateState, Memory>
+        ensures { IfOk result (λ state. disambiguation_of state
+            ≡ spec.told_by self (option_copied forms)) }
+    {
+        if self.year_suffix.is_some() || self.chooses {
+            return Ok(disambiguation_of(self));
+        }
+        match forms {
+            Some(forms) => Ok(DisambiguateState::NameDisambiguation(forms.clone(alloc)?)),
+            None => Ok(DisambiguateState::None),
         }
     }
 

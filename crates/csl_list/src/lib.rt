@@ -29,6 +29,7 @@ mod request;
 mod style_error;
 mod substitute;
 mod told;
+mod told_names;
 mod year_suffix;
 
 pub use driver::BibliographyDriver;

@@ -102,7 +102,8 @@ fn checked_keys(
     keys: &[SortKey],
 ) -> Result<Vec<KeyLayout>, ListStyleError>
     ensures known { OnOk result (All (spec.IsKnown (definitions style.now.macros)) keys.now) }
-    ensures refused { IfErr result (spec.IsRefusalOf (definitions style.now.macros) scope keys.now) }
+    ensures refused { IfErr result (spec.IsRefusalOf (definitions style.now.macros) scope
+        keys.now) }
 {
     if let Some(key) = unknown_key(style, keys) {
         return Err(ListStyleError::NoSuchMacro { scope, key });
@@ -148,6 +149,7 @@ impl ListStyle {
     /// # Errors
     /// [`ListStyleError::Memory`]: out of memory.
     /// [`ListStyleError::NoSuchMacro`]: a key is by a macro that the style lacks.
+    #[tactic(auto, using(crate::proofs::Refusals::by_citation, crate::proofs::Refusals::by_bibliography))]
     pub fn new(
         alloc: Global,
         style: Style,
@@ -211,8 +213,8 @@ impl ListStyle {
         &self.bibliography_keys
     }
 
-    /// Whether all layouts that a list renders are within the limits of [`Style::all_within`]: those
-    /// of the style, and that of each key. Check this before you use a style from a stranger.
+    /// Whether all layouts that a list renders are within the limits of [`Style::all_within`]:
+    /// those of the style, and that of each key. Check this before you use a style from a stranger.
     ///
     /// # Errors
     /// [`Memory`]: out of memory.

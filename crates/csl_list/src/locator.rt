@@ -7,6 +7,7 @@
 //! program's own use.
 
 ghost use Rattle.std.specs.Prelude.{◌≡◌, IfOk, length};
+ghost use Rattle.csl_list.specs.Locator as spec;
 
 use crate::request::CitationItem;
 use csl_common::Memory;
@@ -23,7 +24,9 @@ const START: char = '\u{1fffe}';
 const END: char = '\u{1ffff}';
 
 /// Whether a character is a hyphen or an en dash.
-fn is_dash(letter: char) -> bool {
+fn is_dash(letter: char) -> bool
+    ensures { result ≡ spec.is_dash letter }
+{
     letter == '-' || letter == '–'
 }
 

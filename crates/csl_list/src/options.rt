@@ -25,8 +25,8 @@ pub struct SortKey {
     pub is_descending: bool,
 }
 
-/// How cites in a row are shortened (CSL 1.0.2, Cite Collapsing: collapse). A cite with a text of its
-/// author between it and the cite before it, or with a purpose, is not.
+/// How cites in a row are shortened (CSL 1.0.2, Cite Collapsing: collapse). A cite with a text of
+/// its author between it and the cite before it, or with a purpose, is not.
 #[derive(Clone, Copy, Debug, PartialEq, Eq, Hash)]
 pub enum Collapse {
     /// Of three cites or more whose numbers follow one another, the first and the last are printed.
@@ -73,8 +73,9 @@ pub struct CitationOptions {
     pub keys: Vec<SortKey>,
     /// How cites in a row are shortened, if they are (collapse).
     pub collapse: Option<Collapse>,
-    /// The text between two cites of the same names (cite-group-delimiter), else a comma and a space.
-    /// With it such cites stand together, at the place of the first, even if they are not shortened.
+    /// The text between two cites of the same names (cite-group-delimiter), else a comma and a
+    /// space. With it such cites stand together, at the place of the first, even if they are not
+    /// shortened.
     pub cite_group_delimiter: Option<String>,
     /// The text between two year suffixes of one year (year-suffix-delimiter), else the delimiter.
     pub year_suffix_delimiter: Option<String>,
@@ -178,8 +179,8 @@ impl SortKey {
 
 impl CitationOptions {
     /// No texts, no keys, nothing shortened, and works told apart by branches that test
-    /// `disambiguate` alone. A note is near up to a distance of 5, and the rule of given names is by
-    /// cite, as CSL has it.
+    /// `disambiguate` alone. A note is near up to a distance of 5, and the rule of given names is
+    /// by cite, as CSL has it.
     pub fn new(alloc: Global) -> CitationOptions
         ensures texts { HasNoTexts result }
         ensures keys { result.keys.items ≡ [] }

@@ -1,7 +1,7 @@
 //! First cites that are told apart by their names (CSL 1.0.2, Disambiguation:
 //! disambiguate-add-names, disambiguate-add-givenname, givenname-disambiguation-rule).
 
-ghost use Rattle.std.specs.Prelude.{◌≡◌, ◌<◌, IfOk, IfErr, OnOk, length};
+ghost use Rattle.std.specs.Prelude.{◌≡◌, ◌<◌, IfOk, IfErr, length};
 ghost use Rattle.std.specs.List.{All};
 ghost use Rattle.csl_list.specs.Errors.{IsListingError};
 ghost use Rattle.csl_list.specs.Told as spec;
@@ -12,6 +12,7 @@ use crate::given_names::{cited_names, steps_of_names};
 use crate::identity::{Identity, number_at};
 use crate::options::{CitationOptions, GivenNameRule};
 use crate::substitute::whole_names;
+use crate::told_names::{AddedNames, added_names};
 use csl::{Rendered, Renderer};
 use csl_common::Memory;
 use csl_entry::{
@@ -32,6 +33,8 @@ pub(crate) struct ToldCite {
     pub forms: Option<NameDisambiguationProperties>,
     /// Whether they are not the forms that the style itself gives.
     pub is_named: bool,
+    /// The names in these forms, if they are not the style's.
+    pub added: Option<AddedNames>,
 }
 
 /// More of the names of a cite.
@@ -61,12 +64,17 @@ fn cite_in_state<T: EntryLike>(
             ..first.speculative
         },
     };
+    let is_named = matches!(
+        props.speculative.disambiguation,
+        DisambiguateState::NameDisambiguation(_)
+    );
     let Rendered { content, state } = renderer.cite(alloc, work, &props)?;
     Ok(ToldCite {
         text: content.to_text(alloc, BufWriteFormat::Plain)?,
         names: whole_names(alloc, &content)?,
         forms: state.first_names,
         is_named: false,
+        added: added_names(alloc, &content, is_named)?,
     })
 }
 
@@ -82,12 +90,18 @@ fn named_cite<T: EntryLike>(
 {
     let state = DisambiguateState::NameDisambiguation(forms.clone(alloc)?);
     let cite = cite_in_state(alloc, renderer, work, place, state)?;
-    let ToldCite { text, names, .. } = cite;
+    let ToldCite {
+        text,
+        names,
+        added,
+        ..
+    } = cite;
     Ok(ToldCite {
         text,
         names,
         forms: Some(forms),
         is_named: true,
+        added,
     })
 }
 
@@ -249,6 +263,12 @@ fn fuller_cite<T: EntryLike>(
     }
 }
 
+/// The work at a place of a list.
+fn work_at<'w, T>(works: &'w [T], order: &[usize], place: usize) -> Option<&'w T> {
+    let work = order.get(place)?;
+    works.get(*work)
+}
+
 /// The cites at these places with more of their names.
 fn fuller_cites<T: EntryLike>(
     alloc: Global,
@@ -259,20 +279,12 @@ fn fuller_cites<T: EntryLike>(
     places: &[usize],
     more: More,
 ) -> Result<Vec<Option<ToldCite>>, ListError>
-    requires order { All (λ work. work < length works.now) order.now }
     ensures err { IfErr result IsListingError }
 {
     let mut fuller = Vec::with_capacity(alloc, places.len())?;
     for place in places {
-        fuller.push(match (order.get(*place), told.get(*place)) {
-            (Some(work), Some(own)) => fuller_cite(
-                alloc,
-                renderer,
-                &works[*work],
-                *place,
-                own,
-                more,
-            )?,
+        fuller.push(match (work_at(works, order, *place), told.get(*place)) {
+            (Some(work), Some(own)) => fuller_cite(alloc, renderer, work, *place, own, more)?,
             _ => None,
         })?;
     }
@@ -345,8 +357,6 @@ fn show_more<T: EntryLike>(
     places: &[usize],
     more: More,
 ) -> Result<(), ListError>
-    requires order { All (λ work. work < length works.now) order.now }
-    ensures len { OnOk result (length told.new.items ≡ length told.old.items) }
     ensures err { IfErr result IsListingError }
 {
     let firsts = first_equal_cites(alloc, told, places)?;
@@ -379,8 +389,6 @@ fn add_names<T: EntryLike>(
     order: &[usize],
     told: &mut Vec<ToldCite>,
 ) -> Result<(), ListError>
-    requires order { All (λ work. work < length works.now) order.now }
-    ensures len { OnOk result (length told.new.items ≡ length told.old.items) }
     ensures err { IfErr result IsListingError }
 {
     let all = all_places(alloc, told.len())?;
@@ -402,8 +410,6 @@ fn add_given_names<T: EntryLike>(
     order: &[usize],
     told: &mut Vec<ToldCite>,
 ) -> Result<(), ListError>
-    requires order { All (λ work. work < length works.now) order.now }
-    ensures len { OnOk result (length told.new.items ≡ length told.old.items) }
     ensures err { IfErr result IsListingError }
 {
     let all = all_places(alloc, told.len())?;
@@ -455,7 +461,6 @@ fn expand_names<T: EntryLike>(
     most: usize,
 ) -> Result<(), ListError>
     requires order { All (λ work. work < length works.now) order.now }
-    ensures len { OnOk result (length told.new.items ≡ length told.old.items) }
     ensures err { IfErr result IsListingError }
 {
     let names = cited_names(alloc, works, order, told, is_primary)?;
@@ -494,14 +499,13 @@ fn with_expanded<T: EntryLike>(
     order: &[usize],
     told: Vec<ToldCite>,
 ) -> Result<Vec<ToldCite>, ListError>
-    requires order { All (λ work. work < length works.now) order.now }
     ensures err { IfErr result IsListingError }
 {
     let mut anew = Vec::with_capacity(alloc, told.len())?;
     for cite in told {
         let place = anew.len();
-        anew.push(match order.get(place) {
-            Some(work) => rendered_anew(alloc, renderer, &works[*work], place, cite)?,
+        anew.push(match work_at(works, order, place) {
+            Some(work) => rendered_anew(alloc, renderer, work, place, cite)?,
             None => cite,
         })?;
     }
@@ -543,14 +547,13 @@ fn chosen_cites<T: EntryLike>(
     order: &[usize],
     places: &[usize],
 ) -> Result<Vec<Option<ToldCite>>, ListError>
-    requires order { All (λ work. work < length works.now) order.now }
     ensures err { IfErr result IsListingError }
 {
     let mut chosen = Vec::with_capacity(alloc, places.len())?;
     for place in places {
-        chosen.push(match order.get(*place) {
+        chosen.push(match work_at(works, order, *place) {
             Some(work) => {
-                let (work, state) = (&works[*work], DisambiguateState::Choose);
+                let state = DisambiguateState::Choose;
                 Some(cite_in_state(alloc, renderer, work, *place, state)?)
             }
             None => None,
@@ -568,7 +571,6 @@ pub(crate) fn choices<T: EntryLike>(
     order: &[usize],
     told: &[ToldCite],
 ) -> Result<Vec<bool>, ListError>
-    requires order { All (λ work. work < length works.now) order.now }
     ensures err { IfErr result IsListingError }
 {
     let all = all_places(alloc, told.len())?;
@@ -585,7 +587,8 @@ pub(crate) fn choices<T: EntryLike>(
     Ok(choices)
 }
 
-/// The forms of the names of the work at a place, if they are not those that the style itself gives.
+/// The forms of the names of the work at a place, if they are not those that the style itself
+/// gives.
 pub(crate) fn forms_at(told: &[ToldCite], place: usize) -> Option<&NameDisambiguationProperties> {
     match told.get(place) {
         Some(cite) if cite.is_named => cite.forms.as_ref(),

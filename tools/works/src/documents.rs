@@ -162,12 +162,7 @@ pub fn list(alloc: Global) -> Result<String, WorkError> {
 
 /// Makes the list of a document of `size` works by so many authors, in so many years, with a
 /// citation of each two neighbours, and counts the bytes of its HTML.
-fn list_size(
-    alloc: Global,
-    size: usize,
-    authors: usize,
-    years: usize,
-) -> Result<usize, WorkError> {
+fn list_size(alloc: Global, size: usize, authors: usize, years: usize) -> Result<usize, WorkError> {
     let style = list_style(alloc, MACROS)?;
     let mut works = Vec::new(alloc);
     let mut driver = BibliographyDriver::new(alloc);

@@ -226,10 +226,10 @@ static NOTES: [(&[&str], &str); 3] = [
         &["9: 0", "0", "1", "4: 0"],
         "Seas. / ibid. / Hills. / near. / ",
     ),
-    // only notes count as the first
+    // without a first note a group of its number prints nothing
     (
         &["0", "1", "5: 0", "1", "7: 0", "1", "20: 0"],
-        "Seas. / Hills. / later. / later. / near. / later. / later 5. / ",
+        "Seas. / Hills. /  /  / near. /  / later 5. / ",
     ),
 ];
 
@@ -351,11 +351,40 @@ fn each_printed_cite_names_its_work(rt: HostRuntime) {
     drop(style);
 }
 
+/// Adds the cites of which a content has places for locators.
+fn add_places(rt: &impl Abort, content: &ElemChildren, places: &mut Vec<usize>) {
+    for child in &content.0 {
+        match child {
+            ElemChild::Elem(elem) => add_places(rt, &elem.children, places),
+            ElemChild::Transparent { cite_idx, .. } => put(rt, places, *cite_idx),
+            _ => {}
+        }
+    }
+}
+
+#[test]
+fn a_locator_of_the_caller_keeps_its_place(rt: HostRuntime) {
+    let alloc = rt.alloc();
+    let style = author_list(&rt, alloc, "ay", "");
+    let works = works(&rt, alloc, &WORKS);
+    // the cites are printed as Doe, Roe and the anonymous work
+    let citations = ["4|caller;1|page=2;0|caller"];
+    let list = list(&rt, alloc, &style, &works, &citations, ListedWorks::Cited);
+    let list = list.expect(&rt, "a list");
+    let mut places = Vec::new(alloc);
+    add_places(&rt, &list.citations[0].content, &mut places);
+    assert!(&rt; places.as_slice() == [2, 0].as_slice(), "{places:?}");
+    drop(places);
+    drop(list);
+    drop(works);
+    drop(style);
+}
+
 #[test]
 fn works_of_one_key_stay_apart(rt: HostRuntime) {
     let alloc = rt.alloc();
     let style = author_list(&rt, alloc, "", "a");
-    let works = works(&rt, alloc, &["Roe|2014|Seas", "Doe|2010|Seas"]);
+    let works = works(&rt, alloc, &["Roe, Max|2014|Seas", "Doe, Jane|2010|Seas"]);
     let list = list(&rt, alloc, &style, &works, &["0;1"], ListedWorks::Cited);
     let list = list.expect(&rt, "a list");
     let bibliography = list.bibliography.as_ref().expect(&rt, "a bibliography");
@@ -363,7 +392,7 @@ fn works_of_one_key_stay_apart(rt: HostRuntime) {
         assert_of(&rt, &(item.key.as_str(), item.work), &("Seas", work), work);
     }
     let text = text_of(&rt, alloc, &list);
-    let wanted = "(Roe, 2014; Doe, 2010)\nDoe. 2010. Seas.\nRoe. 2014. Seas.\n";
+    let wanted = "(Roe, 2014; Doe, 2010)\nDoe, Jane. 2010. Seas.\nRoe, Max. 2014. Seas.\n";
     assert_of(&rt, &text.as_str(), &wanted, "one key");
     drop(text);
     drop(list);

@@ -17,7 +17,7 @@ static LOCATORS: [(&str, &str); 9] = [
     ("0|page=x–y", "(Doe p. x–y)"),
     // the hyphens of the author stay
     ("0|before=3-4 |page=3-4|after= 3-4", "(3-4 Doe pp. 3–4 3-4)"),
-    ("0|page=1-2|full", "(Doe pp. 1–2)"),
+    ("0|page=1-2|full", "Doe pp. 1–2"),
 ];
 
 #[test]

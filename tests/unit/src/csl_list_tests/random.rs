@@ -131,7 +131,8 @@ impl Earlier<'_> {
     }
 }
 
-/// What the style of notes prints of a cite after earlier ones.
+/// Adds what the style of notes prints of a cite after earlier ones, and a delimiter before it if
+/// it is not the first of its line.
 fn push_wanted(
     rt: &impl Abort,
     alloc: Global,
@@ -150,10 +151,14 @@ fn push_wanted(
         (Some(_), Some(page), _) => format!(in alloc; "ibid. at {page}"),
         _ if is_near => format!(in alloc; "near"),
         (_, _, Some(first)) => format!(in alloc; "later {first}"),
-        _ if is_cited => format!(in alloc; "later"),
+        // a group of a note's number prints nothing without it
+        _ if is_cited => return,
         _ => String::from_str(alloc, TITLES[cite.work]),
     };
     let text = text.expect(rt, "memory");
+    if !wanted.is_empty() && !wanted.ends_with('\n') {
+        wanted.push_str("; ").expect(rt, "memory");
+    }
     wanted.push_str(text.as_str()).expect(rt, "memory");
 }
 
@@ -166,9 +171,6 @@ fn wanted_of(rt: &impl Abort, alloc: Global, citations: &[Vec<Cite>]) -> String 
                 citations: &citations[..i],
                 own: &cites[..j],
             };
-            if j > 0 {
-                wanted.push_str("; ").expect(rt, "memory");
-            }
             push_wanted(rt, alloc, &mut wanted, &earlier, *cite);
         }
         wanted.push('\n').expect(rt, "memory");

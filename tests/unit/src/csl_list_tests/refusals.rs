@@ -108,7 +108,7 @@ fn text_within(
 fn a_list_has_one_limit(rt: HostRuntime) {
     let alloc = rt.alloc();
     let style = author_list(&rt, alloc, "a", "a");
-    let works = works(&rt, alloc, &["Doe|2014|Seas", "Roe|2010|Hills"]);
+    let works = works(&rt, alloc, &["Doe, Jane|2014|Seas", "Roe, Max|2010|Hills"]);
     // the limit stops at a sort key, a cite or a work, as it is lower or higher
     let (mut low, mut high): (u64, u64) = (0, 1_000_000);
     while high - low > 1 {
@@ -124,7 +124,8 @@ fn a_list_has_one_limit(rt: HostRuntime) {
         assert_of(&rt, &text.is_none(), &true, eighth);
     }
     let text = text_within(&rt, alloc, &style, &works, high).expect(&rt, "a list");
-    let wanted = "(Doe, 2014)\n(Doe, 2014; Roe, 2010)\nDoe. 2014. Seas.\nRoe. 2010. Hills.\n";
+    let wanted =
+        "(Doe, 2014)\n(Doe, 2014; Roe, 2010)\nDoe, Jane. 2014. Seas.\nRoe, Max. 2010. Hills.\n";
     assert_of(&rt, &text.as_str(), &wanted, high);
     drop(text);
     drop(works);
