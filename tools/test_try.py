@@ -383,7 +383,7 @@ class TrialTests:
     def test_hostile_sizes(self) -> None:
         """Files that cost the most, each of which may cost five seconds of a core."""
         style, path = f"{STYLES}/author_year.csl", f"{self.room}/hostile.json"
-        title = "\"'" + "#" * 200_000
+        title = "\"'" + "#" * 40_000
         self.file("hostile.json", json.dumps([{**BOOK, "title": title}]))
         wanted = f"b\n  (Ode, 2014)\n  Ode (2014). {title}.\n"
         self.row("a text of marks", self.cheap(style, path), (0, wanted, []))

@@ -224,11 +224,13 @@ fn of_cite<'l>(
 }
 
 /// The place that the answer to a question about a document begins with, and the wanted answer.
-fn placed<'l>(alloc: Global, rest: &'l str) -> Result<(usize, &'l str), Fault> {
+fn placed<'l>(alloc: Global, rest: &'l str, form: As) -> Result<(usize, &'l str), Fault> {
     let (place, wanted) = rest.split_once(':').unwrap_or((rest, ""));
-    match place.parse::<usize>() {
-        Ok(place) => Ok((place, unquoted(wanted.trim_start_matches(' ')))),
-        Err(_) => Err(Fault::of_word(alloc, "not a number", place)),
+    let wanted = wanted.trim_start_matches(' ');
+    match (place.parse::<usize>(), form) {
+        (Ok(place), As::Tree) => Ok((place, wanted)),
+        (Ok(place), As::Plain | As::Html) => Ok((place, unquoted(wanted))),
+        (Err(_), _) => Err(Fault::of_word(alloc, "not a number", place)),
     }
 }
 
@@ -245,11 +247,11 @@ fn of_list<'l>(
     };
     let found = match head {
         "cited" => {
-            let (place, wanted) = placed(alloc, rest)?;
+            let (place, wanted) = placed(alloc, rest, form)?;
             (OfList::Citation(place, form), wanted)
         }
         "item" => {
-            let (place, wanted) = placed(alloc, rest)?;
+            let (place, wanted) = placed(alloc, rest, form)?;
             (OfList::Item(place, form), wanted)
         }
         "items" => (OfList::Order, rest),
