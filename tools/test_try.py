@@ -7,6 +7,7 @@ import shutil
 from typing import Any
 
 from csl_source import library
+from csl_source.cites import citations
 from csl_source.document import LARGE, Refused
 from csl_source.items import items as read_items
 from csl_source.page import rules
@@ -121,9 +122,33 @@ HOSTILE_BODY = """<h1>Numbers in brackets</h1>
 <h2>Cites</h2>
 <p><b>h&lt;</b>: [1]</p>
 <h2>References</h2>
-<div class="entry columns"><div>[1]</div><div>Ode, “A  evil &lt;script&gt; \u05d0”, P, 2014, \
+<div class="entry columns"><div>[1]</div><div>Ode, “A  evil &lt;script&gt; \u05d0,” P, 2014, \
 <a href="https://a.org/b">https://a.org/b</a>.</div></div>
 """
+# Cites of works `a` and `b`, each in the words of citeproc-js, and what the first sample style prints of them.
+CITES = [
+    ([{"id": "a"}], "(Ode, 2014)"),
+    ([{"id": "b", "prefix": "see ", "suffix": ", too"}, {"id": "a", "locator": 7}], "(Ode, 2014, p. 7; see Poe, 2015, too)"),
+    ([{"id": "a", "locator": "2", "label": "chapter"}], "(Ode, 2014, chap. 2)"),
+    ([{"id": "a", "locator": "x", "label": "sub verbo"}], "(Ode, 2014, s.v. x)"),
+    ([{"id": "a", "suppress-author": True}], "(2014)"),
+    ([{"id": "a", "author-only": 1}], "Ode"),
+    ({"citationItems": [{"id": "a"}, {"id": "b"}], "properties": {"noteIndex": 3, "mode": "composite"}},
+     "Ode (2014; Poe, 2015)"),
+    ({"citationItems": [{"id": "b"}]}, "(Poe, 2015)"),
+    ([{"id": "a", "prefix": "<i>cf.</i>\n"}], "(cf. Ode, 2014)"),
+    ([], ""),
+]
+# Citations with something wrong, and what is told of them.
+WRONG_CITES = [
+    ([{"id": "c"}], "there is no work `c`"),
+    ([{"locator": "7"}], 'a cite is an object with an `id`, as {"id": "kwan", "locator": "7"}'),
+    (["a"], 'a cite is an object with an `id`, as {"id": "kwan", "locator": "7"}'),
+    ([{"id": "a", "page": "7"}], "`page` is no part of a cite"),
+    ([{"id": "a", "locator": "7", "label": "shelf"}], "the label `shelf` is unknown"),
+    ({"properties": {}}, 'a citation is a list of cites, or an object with one in "citationItems"'),
+    ("a", 'a citation is a list of cites, or an object with one in "citationItems"'),
+]
 # Names of variables, each a megabyte long.
 LONG_NAMES = ["x" * 1_000_000 + str(it) for it in range(10)]
 # Styles in rows that cost the most, and what is told of them: macros that each call the next, or twice.
@@ -146,7 +171,7 @@ WORDS = [
     ([], "a style is missing"),
     (["a.csl", "b.json", "c"], "one word too many: c"),
     (["a.csl", "--colour"], "there is no option --colour"),
-    (["a.csl", "--sort=no"], "there is no option --sort=no"),
+    (["a.csl", "--list=no"], "there is no option --list=no"),
     (["a.csl", "--locale"], "--locale needs a word after it"),
     (["a.csl", "--html="], "--html needs a word after it"),
     (["a.rows", "--locale", "de-DE"], "--locale goes with a CSL file; rows have default-locale"),
@@ -188,9 +213,10 @@ class TrialTests:
         return [it.id for it in works], [it.removeprefix(path) for it in faults]
 
     def of_items(self, items: list[dict[str, Any]], *words: str) -> tuple[int, str, list[str]]:
-        """What is printed of these items, and what is told of the file."""
-        path = self.items(items)
-        status, text, faults = self.tried(f"{STYLES}/author_year.csl", path, *words)
+        """What is printed of these items, without year suffixes, and what is told of the file."""
+        path, style = self.items(items), read(f"{STYLES}/author_year.csl")
+        style = self.file("author_year.csl", style.replace('disambiguate-add-year-suffix="true"', ""))
+        status, text, faults = self.tried(style, path, *words)
         faults = [it.removeprefix(path) for it in faults if it.startswith(path)]
         return status, text.split("The first")[0], faults
 
@@ -241,7 +267,7 @@ class TrialTests:
     def faults(self, *words: str, **how: Any) -> tuple[int, str, list[str]]:
         """What the tool prints, and what it tells beside what is left out."""
         status, text, faults = self.tried(*words, **how)
-        left_out = re.compile(r": \d+ places? \(|`author` is missing")
+        left_out = re.compile(": left out: ")
         return status, text.split("The first")[0], [it for it in faults if not left_out.search(it)]
 
     def test_trial_words(self) -> None:
@@ -273,12 +299,41 @@ class TrialTests:
         works = [("Zuse", 1), ("Östlund", 2), ("Ødegård", 2), ("Oster", 2019), ("Oster", 2001), ("", 3)]
         items = [{**BOOK, "id": f"{name}{year}", "author": [{"family": name}] if name else [],
                   "issued": {"date-parts": [[year]]}, "title": ""} for name, year in works]
-        text = self.of_items(items, "--sort")[1]
         wanted = ["Ødegård2", "Oster2001", "Oster2019", "Östlund2", "Zuse1", "3"]
-        self.row("sorted works", re.findall(r"^(\S+)$", text, re.M), wanted)
-        path = self.file("unsorted.rows", "base (citation title)\n")
-        told = [f"{path}: it sorts nothing: the works are in their order"]
-        self.row("a style that sorts nothing", self.faults(path, "--sort")[::2], (0, told))
+        for words, found in ([], r"^(\S+)$"), (["--list"], r"^(\S+)\n  .*\n(?=\S|$)"):
+            text = self.of_items(items, *words)[1]
+            self.row(f"sorted works: {words}", re.findall(found, text, re.M), wanted)
+        path = self.file("none.rows", "base (citation title)\n")
+        self.row("a style without a bibliography", self.faults(path, "--list"), (0, "", []))
+
+    def test_cites(self) -> None:
+        """The citations of a document, and what is wrong with some."""
+        works = [{**BOOK, "id": "a"}, {**BOOK, "id": "b", "author": [{"family": "Poe"}], "issued": "2015"}]
+        words = [f"{STYLES}/author_year.csl", self.items(works), "--cites"]
+        path = self.file("cites.json", json.dumps([it for it, _ in CITES]))
+        status, text, faults = self.tried(*words, path)
+        cited, _, listed = text.partition("\n\n")
+        given = re.findall(r"^(?:[ab](?:, [ab])*|\(no cites\))\n?((?:  .*)?)", cited, re.M)
+        self.row("cites", (status, [it.strip() for it in given], len(faults)), (0, [text for _, text in CITES], 1))
+        self.row("the list after cites", listed, "a\n  Ode (2014). T.\nb\n  Poe (2015). T.\n")
+        path = self.file("cites.json", json.dumps([it for it, _ in WRONG_CITES]))
+        told = [f"{path}: citation {place}: {why}" for place, (_, why) in enumerate(WRONG_CITES, 1)]
+        self.row("wrong cites", citations(path, {"a", "b"})[1], told)
+        status, text, faults = self.faults(*words, path)
+        self.row("wrong cites are told", (status, faults, text[-19:]), (1, told, "b\n  Poe (2015). T.\n"))
+        for content, why in ("{", "no JSON: Expecting property name enclosed in double quotes: line 1 column 2 (char 1)"), \
+                ("{}", 'no list of citations, as [[{"id": "kwan"}]]'):
+            path = self.file("cites.json", content)
+            self.row(f"the citations {content}", self.faults(*words, path), (1, "", [f"{path}: {why}"]))
+
+    def test_more(self) -> None:
+        """What is left out: one line, or each thing in its own."""
+        style = f"{STYLES}/bracketed.csl"
+        path = self.file("items.json", json.dumps([{**BOOK, "title": "<b>T</b>"}]))
+        told = self.tried(style, path)[2]
+        self.row("one line", told, [f"{style}: left out: 1 thing, in 1 place (--more says what)"])
+        told = self.tried(style, path, "--more")[2]
+        self.row("each thing", told, [f"{style}: markup inside of titles is dropped: 1 place (markup in texts)"])
 
     def test_page(self) -> None:
         """A web page: texts are escaped, and only web addresses are links."""
@@ -322,16 +377,13 @@ class TrialTests:
     def test_missing(self) -> None:
         """A macro and a term that are missing are told."""
         path = self.file("missing.rows", 'base (citation title (text macro=no) (text term=in))\n')
-        told = [f"{path}: the {it} is missing: it prints nothing" for it in ("macro `no`", "term `in`")]
+        told = [f"{path}: the {it} is missing: it prints nothing" for it in ("term `in`", "macro `no`")]
         self.row("what is missing", self.faults(path)[2], told)
-        path = self.file("doubled.rows", 'base (citation (group delimiter=. "a." "b  c...d   e"))\n')
-        told = [f"{path}: {it} are doubled where parts meet: 8 places" for it in ("periods", "spaces")]
-        self.row("what is doubled", self.faults(path)[2], told)
 
     def test_hostile_sizes(self) -> None:
         """Files that cost the most, each of which may cost five seconds of a core."""
         style, path = f"{STYLES}/author_year.csl", f"{self.room}/hostile.json"
-        title = "\"'" + "#" * 200_000
+        title = "\"'" + "#" * 40_000
         self.file("hostile.json", json.dumps([{**BOOK, "title": title}]))
         wanted = f"b\n  (Ode, 2014)\n  Ode (2014). {title}.\n"
         self.row("a text of marks", self.cheap(style, path), (0, wanted, []))
@@ -341,7 +393,7 @@ class TrialTests:
         self.row("long names", self.cheap(style, path), (1, "", told))
         path = self.file("hostile.json", json.dumps([{**BOOK, "title": "x" * 5_000}]))
         rows = self.file("hostile.rows", f"base (citation {'title ' * 400})\n")
-        told = [f"{path}:1: b: it would write more than a million bytes"]
+        told = [f"{rows}: it would write too many bytes"]
         self.row("two million bytes", self.cheap(rows, path), (1, "", told))
         for base, why in COSTLY:
             path = self.file("hostile.rows", f"base {base}\n")
@@ -350,6 +402,29 @@ class TrialTests:
     def cheap(self, *words: str) -> tuple[int, str, list[str]]:
         """What `faults` gives of a call that may cost five seconds of a core."""
         return self.faults(*words, seconds=5)
+
+    def test_compare_pandoc(self) -> None:
+        """tools/compare_pandoc over a pandoc that prints what `tools/try` prints, but for the case of a citation, and
+        for a citation and a line."""
+        folder, style = "tools/pandoc_tests", f"{STYLES}/bracketed.csl"
+        text = self.tried(style, f"{folder}/works.json", "--cites", f"{folder}/document.json")[1]
+        cites, lines = (re.findall(r"^(\S.*)\n  (.*)$", it, re.M) for it in text.split("\n\n"))
+        cites[0], cites[5] = (cites[0][0], "[other]"), (cites[5][0], cites[5][1].upper())
+        lines[2] = (lines[2][0], "other")
+        blocks = [{"t": "Cite", "c": [[], [{"t": "Str", "c": it}]]} for _, it in cites]
+        entries = [{"t": "Div", "c": [[f"ref-{name}"], [{"t": "Str", "c": it}]]} for name, it in lines]
+        blocks.append({"t": "Div", "c": [["refs"], entries]})
+        pandoc = self.file("bin/pandoc", f"#!/bin/sh\ncat {self.file('blocks.json', json.dumps({'blocks': blocks}))}\n")
+        os.chmod(pandoc, 0o755)
+        path = {**os.environ, "PATH": f"{self.room}/bin:{os.environ['PATH']}"}
+        causes = self.file("causes", f"pandoc: another\n  bracketed line {lines[2][0]}\n  bracketed citation 7\n")
+        status, text, _ = ran(["tools/compare_pandoc", style, "--causes", causes], env=path)
+        counts = "17 of 18 lines (17 exactly), 15 of 16 citations (14 exactly)"
+        wanted = ["Equal but for case:", f"bracketed: {counts}", f"all: {counts}",
+                  "0 lines, 1 citations: without a cause", "1 lines, 0 citations: pandoc: another", "",
+                  "bracketed: citation 1", "  pandoc [other]", "  here   [1]",
+                  "nothing differs at bracketed citation 7 (pandoc: another)"]
+        self.row("differences from pandoc", (status, text.splitlines()), (1, wanted))
 
     def test_no_kit(self) -> None:
         """Without the kit, and without a program of an earlier call, there is one line."""
@@ -379,8 +454,8 @@ class TrialTests:
         self.row("many items are read", len(self.read(self.file("many.json", many))[0]), 20_000)
         path = self.file("many.json", json.dumps([{**BOOK, "id": it} for it in range(100)]))
         # (it takes three seconds of a core)
-        status, text, _ = self.tried(f"{STYLES}/author_year.csl", path, "--sort", seconds=20)
-        self.row("many items are printed", (status, text.count("\n  Ode (2014). T.")), (0, 100))
+        status, text, _ = self.tried(f"{STYLES}/author_year.csl", path, seconds=20)
+        self.row("many items are printed", (status, len(re.findall(r"\n  Ode \(2014\w+\)\. T\.", text))), (0, 100))
 
     def all_of_trials(self) -> None:
         """All of these tests."""
@@ -389,11 +464,14 @@ class TrialTests:
         self.test_item_files()
         self.test_locales()
         self.test_sorted()
+        self.test_cites()
+        self.test_more()
         self.test_page()
         self.test_hostile_page()
         self.test_hostile_items()
         self.test_hostile_sizes()
         self.test_missing()
+        self.test_compare_pandoc()
         self.test_no_kit()
         self.test_kept_at_once()
         self.test_many()

@@ -62,10 +62,14 @@ def sorts() -> dict[str, str]:
     return {name: enum for enum in library.VARIABLES for name in library.variants(enum)}
 
 
-def cleaned(text: str) -> str:
+def on_one_line(text: str) -> str:
     """A text as the notation can hold it: one line, without control characters and halves of characters."""
-    text = CONTROL.sub(" ", SPACES.sub(" ", text))
-    return HALVES.sub("\ufffd", text).strip(" ")
+    return HALVES.sub("\ufffd", CONTROL.sub(" ", SPACES.sub(" ", text)))
+
+
+def cleaned(text: str) -> str:
+    """The same without spaces at its ends."""
+    return on_one_line(text).strip(" ")
 
 
 def named(text: str) -> str:

@@ -12,12 +12,6 @@ SEEN = (
     ("dates are missing that are in words", "dates in words"),
     ("ranges of dates are cut to their first date", "ranges of dates"),
     ("markup inside of titles is dropped", "markup in texts"),
-    ("cites that are alike stay alike, as 2014 for 2014a",
-     "`disambiguate-.*`|`givenname-disambiguation-rule`|`year-suffix-delimiter`"),
-    ("cites in a row are not shortened, as 1, 2, 3 for 1–3",
-     "`collapse`|`cite-group-delimiter`|`after-collapse-delimiter`"),
-    ("an author of several works is written out each time", "`subsequent-author-substitute(-rule)?`"),
-    ("no note counts as near another", "`near-note-distance`"),
     ("names are sorted as they print", "`names-(min|use-first|use-last)` of `key`"),
     ("texts before and after names are missing", "affixes of `name`"),
     ("texts before and after a part are formatted like the part", "affixes outside of the formatting"),
@@ -49,3 +43,9 @@ def lines(left: collections.Counter) -> list[str]:
             names = [*own][:MOST_NAMES] + [f"and {len(own) - MOST_NAMES} more"] * (len(own) > MOST_NAMES)
             found.append(f"{seen}: {places(sum(own.values()))} ({', '.join(names)})")
     return found
+
+
+def summary(left: collections.Counter) -> str:
+    """How much is left out, in a few words."""
+    names = [name for name, count in left.items() if count]
+    return f"{len(names)} {'thing' if len(names) == 1 else 'things'}, in {places(sum(left.values()))}"

@@ -14,11 +14,12 @@ VARIABLES = ("StandardVariable", "NumberVariable", "PageVariable", "DateVariable
 
 @functools.cache
 def sources() -> list[str]:
-    """The texts of `csl_style` and of the crates that it stands on, in this order."""
+    """The texts of `csl_style`, of the crates that it stands on, and of `csl_list`, in this
+    order."""
     with open(f"{TOP}/crates.txt", encoding="utf-8") as lines:
         below = next(line.split(":")[1].split() for line in lines if line.startswith("csl_style:"))
     texts = []
-    for crate in ["csl_style", *below]:
+    for crate in ["csl_style", *below, "csl_list"]:
         for path in sorted(glob.glob(f"{TOP}/crates/{crate}/src/**/*.rt", recursive=True)):
             texts.append(read(path))
     return texts

@@ -1,6 +1,5 @@
 """A reference list as a whole web page, with the looks of csl_uses' `page.rt`: texts are escaped,
 only web addresses are links, and there are no direction controls."""
-import dataclasses
 import functools
 import glob
 import html
@@ -48,14 +47,6 @@ def rules() -> str:
     raise SystemExit("tools/try: no page.rt has rules for the looks of a page")
 
 
-@dataclasses.dataclass
-class Listed:
-    """A work as HTML: its `id`, its cite, and its line of the bibliography in one or two columns."""
-    id: str
-    cite: str
-    line: list[str]
-
-
 def entry(line: list[str], is_hanging: bool) -> str:
     """A line of the bibliography."""
     # (the library's own columns are floats)
@@ -70,19 +61,17 @@ def number(text: str, default: float) -> float:
     return min(int(text), 10) if re.fullmatch(r"\d+", text) else default
 
 
-def page(title: str, language: str, looks: Mapping[str, str], works: list[Listed], together: str) -> str:
-    """The page of these works. `looks` has what the style says of its bibliography, and `together` a citation
-    of several works."""
-    body = "<h2>Cites</h2>\n"
-    body += "".join(f"<p><b>{html.escape(it.id)}</b>: {it.cite}</p>\n" for it in works)
-    if together:
-        body += f"<p>{together}</p>\n"
-    if any(it.line for it in works):
-        body += "<h2>References</h2>\n"
-        is_hanging = looks.get("bibliography-hanging-indent") == "true"
-        body += "".join(entry(it.line, is_hanging) for it in works if it.line)
+def page(title: str, language: str, looks: Mapping[str, str], cited: list[tuple[str, str]],
+         lines: list[list[str]]) -> str:
+    """The page of these citations, each with a name, and of these lines of the bibliography. `looks` says how
+    that looks."""
+    body = "<h2>Cites</h2>\n" if cited else ""
+    body += "".join(f"<p>{f'<b>{html.escape(name)}</b>: ' if name else ''}{it}</p>\n" for name, it in cited)
+    body += "<h2>References</h2>\n" if lines else ""
+    is_hanging = looks.get("hanging-indent") == "true"
+    body += "".join(entry(it, is_hanging) for it in lines)
     text = PAGE.format(
         language=html.escape(language), title=html.escape(title), body=body, rules=rules(),
-        spacing=0.3 + 0.5 * number(looks.get("bibliography-entry-spacing", ""), 1),
-        lines=1.4 * max(1, number(looks.get("bibliography-line-spacing", ""), 1)))
+        spacing=0.3 + 0.5 * number(looks.get("entry-spacing", ""), 1),
+        lines=1.4 * max(1, number(looks.get("line-spacing", ""), 1)))
     return DIRECTION_CONTROLS.sub("", text)

@@ -4,7 +4,7 @@ import collections
 import os
 from typing import Callable, Iterable, Iterator, Sequence
 
-from csl_source import library
+from csl_source import library, lists
 from csl_source.attributes import FORMATTING
 from csl_source.code import comment
 from csl_source.document import CS, LANGUAGE, Node, document
@@ -12,7 +12,7 @@ from csl_source.elements import Scope, handed_down
 from csl_source.locales import (OPTIONS, ORDINAL, BuiltIn, built_in, locale_of, locales_in_order,
                                 options_of)
 from csl_source.notation import CONTROL, Form, attribute, filled, in_quotes
-from csl_source.styles import LAYOUTS, LOOKS, TEXTS, Style, info_of, plain
+from csl_source.styles import LAYOUTS, TEXTS, Style, info_of, plain
 
 NAME_OPTIONS = ("and", "delimiter-precedes-et-al", "delimiter-precedes-last", "et-al-min",
                 "et-al-use-first", "et-al-subsequent-min", "et-al-subsequent-use-first",
@@ -20,7 +20,7 @@ NAME_OPTIONS = ("and", "delimiter-precedes-et-al", "delimiter-precedes-last", "e
                 "sort-separator")
 INHERITED = ("name-form", "name-delimiter", "names-delimiter", *NAME_OPTIONS)
 NUMBERS = ("et-al-min", "et-al-use-first", "et-al-subsequent-min", "et-al-subsequent-use-first",
-           "entry-spacing", "line-spacing")
+           "entry-spacing", "line-spacing", "near-note-distance")
 AFFIXES = ("prefix", "suffix")
 # The attributes of each element that the notation has, beside a formatting. Affixes may go to a
 # group around it.
@@ -274,12 +274,14 @@ class Rows:
                 yield Form(name, attributes, self.nodes(layout))
 
     def driver(self) -> Iterator[Form]:
-        """What a driver does: the texts around a layout, how the bibliography looks, and the sort
-        keys."""
+        """What a driver does: the texts around a layout, its options, and the sort keys."""
+        is_note = ["class=note"] * (self.root.get("class") == "note")
         for name in LAYOUTS:
             for node in self.root.below(name):
-                layout, looks = node.below("layout")[0], LOOKS if name == "bibliography" else ()
-                around = self.attributes(layout, TEXTS) + self.attributes(node, looks)
+                layout = node.below("layout")[0]
+                around = is_note if name == "citation" else []
+                around = [*around, *self.attributes(layout, TEXTS),
+                          *self.attributes(node, lists.OPTIONS[name])]
                 keys = [self.key(key) for key in node.below("sort", "key")]
                 if around:
                     yield Form(f"around {name}", around)

@@ -4,36 +4,18 @@ import os
 import unicodedata
 from typing import Iterator, Sequence
 
-from csl_source import library
+from csl_source import lists
 from csl_source.attributes import Attributes, some
-from csl_source.code import (Call, Expression, Local, Row, Step, Struct, Vector, comment,
-                             function, lines_of, over, quoted, snake, unique)
+from csl_source.code import (Call, Expression, Local, Step, Struct, Vector, comment, function,
+                             lines_of, over, quoted, snake, unique)
 from csl_source.document import CS, LANGUAGE, Node, document
 from csl_source.elements import RENDERED, Elements
 from csl_source.locales import HELPERS, BuiltIn, Locales, locales_in_order, options_of
 
 # The layouts of a style, in their order.
 LAYOUTS = ("citation", "bibliography")
-# What a driver does, by the attributes of a citation and of a bibliography.
-BY_DRIVER = {
-    "citation": ("after-collapse-delimiter", "cite-group-delimiter", "collapse",
-                 "disambiguate-add-givenname", "disambiguate-add-names",
-                 "disambiguate-add-year-suffix", "givenname-disambiguation-rule",
-                 "near-note-distance", "year-suffix-delimiter"),
-    "bibliography": ("subsequent-author-substitute", "subsequent-author-substitute-rule"),
-}
 # The texts around a layout, which a driver writes.
 TEXTS = ("prefix", "suffix", "delimiter")
-AROUND = {"citation": "before the cites of a citation, after them, and between them",
-          "bibliography": "before each line of the bibliography, after it, and between lines"}
-# How the bibliography looks, which a driver sets.
-LOOKS = {
-    "hanging-indent": "Whether all lines of an entry but its first are indented.",
-    "second-field-align":
-        "How the first field of each line is set apart: `flush`, `margin`, or not at all.",
-    "entry-spacing": "The empty lines between two entries of the bibliography.",
-    "line-spacing": "The distance of two lines of the bibliography, in lines.",
-}
 # A function adds so many macros.
 MACROS = 30
 
@@ -114,9 +96,12 @@ class Style:
         self.left: collections.Counter[str] = collections.Counter()
         self.root = document(path, "style")
         refuse_dependent(self.root)
-        taken = dict.fromkeys(["style", "style_settings", *HELPERS], 2)
+        own = ["style", "style_settings", "list_style", *(f"{it}_options" for it in LAYOUTS)]
+        taken = dict.fromkeys([*own, *HELPERS], 2)
         self.elements = Elements(self.left, taken, self.indent)
         self.locales = Locales(self.elements)
+        # (of each layout)
+        self.options: dict[str, lists.Fields] = {}
 
     def text(self) -> str:
         """The text of the file, or of the module."""
@@ -124,20 +109,18 @@ class Style:
         given = Attributes(self.root, self.left)
         settings = self.settings(given)
         given.end(("info", "locale", "macro", "citation", "bibliography"))
-        constants = [lines for name in LAYOUTS for lines in self.constants(name)]
-        keys = [lines for lines in map(self.keys, LAYOUTS) if lines]
         layouts = [self.layout(name) for name in LAYOUTS]
-        lists = self.macro_lists([self.macro(name, node) for name, node in macros.items()])
-        names = [name for name, _ in lists]
+        added = self.macro_lists([self.macro(name, node) for name, node in macros.items()])
+        names = [name for name, _ in added]
         main = self.main(bool(settings), names, layouts, self.locale_calls())
-        blocks = [*constants, main, *keys, *([settings] if settings else [])]
-        blocks += [*(lines for _, lines in lists), *self.elements.functions]
-        blocks += [*self.locales.written, *self.locales.helpers()]
-        return self.joined(blocks, bool(keys))
+        blocks = [main, *lists.list_style(self.root, self.options, self.indent)]
+        blocks += [settings] if settings else []
+        blocks += [*(lines for _, lines in added), *self.elements.functions]
+        return self.joined([*blocks, *self.locales.written, *self.locales.helpers()])
 
-    def joined(self, blocks: list[list[str]], sorts: bool) -> str:
-        """The file of these blocks. `sorts` is whether some of them sort."""
-        parts = [self.head(), self.uses(sorts), *blocks]
+    def joined(self, blocks: list[list[str]]) -> str:
+        """The file of these blocks."""
+        parts = [self.head(), self.uses(), *blocks]
         inside = "\n\n".join("\n".join(lines) for lines in parts)
         if not self.module:
             return f"{inside}\n"
@@ -160,87 +143,15 @@ class Style:
             lines += comment(f"Rights: {rights}", self.indent, "//!")
         return lines
 
-    def uses(self, sorts: bool) -> list[str]:
+    def uses(self) -> list[str]:
         """What the file imports."""
-        names = ["csl::Error", "csl::style::*", "std::alloc::Global"]
-        if sorts:
-            names = ["csl::style::*", "csl::{Error, Sorting}", "std::alloc::Global"]
+        names = ["csl::Error", "csl::style::*", "csl_list::*", "std::alloc::Global"]
         return [f"{' ' * self.indent}use {name};" for name in names]
-
-    def constants(self, name: str) -> list[list[str]]:
-        """What a driver writes around a layout and sets for it, as constants."""
-        node = self.root.first(name)
-        layout = None if node is None else node.first("layout")
-        if node is None or layout is None:
-            return []
-        texts = ", ".join(quoted(layout.get(text, "")) for text in TEXTS)
-        found = [(f"What a driver writes {AROUND[name]}.",
-                  f"{name.upper()}: (&str, &str, &str) = ({texts})")]
-        if name == "bibliography":
-            found += [(about, f"{look.upper().replace('-', '_')}: {value}")
-                      for (look, about), value in zip(LOOKS.items(), self.looks(node))]
-        space = " " * self.indent
-        return [[*comment(about, self.indent), f"{space}pub const {constant};"]
-                for about, constant in found]
-
-    def looks(self, bibliography: Node) -> list[str]:
-        """How the bibliography looks, each with the type of its constant, in the order of
-        `LOOKS`."""
-        given = Attributes(bibliography)
-        align = given.one_of("second-field-align", {"flush": '"flush"', "margin": '"margin"'})
-        indent = given.flag("hanging-indent") or "false"
-        entries, lines = given.number("entry-spacing") or "1", given.number("line-spacing") or "1"
-        aligned = f"Some({align})" if align else "None"
-        return [f"bool = {indent}", f"Option<&str> = {aligned}", f"u32 = {entries}",
-                f"u32 = {lines}"]
 
     def errors(self) -> list[str]:
         """The lines of a comment on a function that says how it fails."""
         lines = ["///", "/// # Errors", "/// [`Error::Memory`]: out of memory."]
         return [" " * self.indent + line for line in lines]
-
-    def keys(self, name: str) -> list[str] | None:
-        """The function that returns the keys of a layout's sort, or `None` if it has none."""
-        found = self.root.below(name, "sort", "key")
-        if not found:
-            return None
-        steps: list[Step] = []
-        rows = []
-        for key in found:
-            variable, macro = key.get("variable"), key.get("macro")
-            word = macro if variable is None else variable
-            if word is None:
-                key.refuse("`key` needs a `variable` or a `macro`")
-            node, layout = Local(snake(word, "key")), Local(f"{snake(word, 'key').strip('_')}_key")
-            steps.append((node, self.key_node(key)))
-            steps.append((layout, Call("Layout::new", Vector([node.into()]))))
-            sorting = "Sorting::Macro" if variable is None else "Sorting::Variable"
-            is_downwards = "true" if key.get("sort") == "descending" else "false"
-            rows.append(Row([layout, sorting, is_downwards]))
-        keys = Local("keys")
-        steps.append((keys, Vector(rows)))
-        about = f"The keys that the {name} is sorted by, each as a layout for `csl::sort_key`, " \
-            "with where its text comes from and whether it counts downwards."
-        kind = "Vec<(Layout, Sorting, bool)>"
-        lines = function(f"{name}_keys", kind, steps, Call("Ok", keys), self.indent)
-        lines[0] = f"{' ' * self.indent}pub {lines[0].lstrip()}"
-        return [*comment(about, self.indent), *self.errors(), *lines]
-
-    def key_node(self, key: Node) -> Call:
-        """The node that a key renders: a call of a macro, or a variable."""
-        given = Attributes(key)
-        name = key.get("variable")
-        if name is None:
-            return Call("Text::macro_call", "alloc", quoted(given.taken("macro")), tail="?")
-        known = {name: sort for sort in library.VARIABLES for name in library.variants(sort)}
-        sort = given.needed_one_of("variable", known, "variable")
-        variable = library.variants(sort)[name]
-        if sort == "NameVariable":
-            return Call("Names::new", "alloc", Vector([variable]))
-        if sort == "DateVariable":
-            return Call("Date::new", variable, "Vec::new(alloc)")
-        call = "Text::variable" if sort == "StandardVariable" else "Number::new"
-        return Call(call, f"{variable}.into()")
 
     def settings(self, given: Attributes) -> list[str] | None:
         """The function that returns the settings, or `None` if they are the defaults."""
@@ -288,10 +199,7 @@ class Style:
             for node in nodes:
                 given = Attributes(node, self.left)
                 yield f"{name}_names", given.name_options()
-                given.leave_out(*BY_DRIVER[name])
-                if name == "bibliography":
-                    for look in LOOKS:
-                        given.text(look)
+                self.options[name] = lists.options(name, given)
                 given.end(("sort", "layout"))
 
     def layout(self, name: str) -> str | None:

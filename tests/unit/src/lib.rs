@@ -12,6 +12,8 @@ mod csl_entry_tests;
 #[cfg(test)]
 mod csl_finish_tests;
 #[cfg(test)]
+mod csl_list_tests;
+#[cfg(test)]
 mod csl_render_tests;
 #[cfg(test)]
 mod csl_style_tests;

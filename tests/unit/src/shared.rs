@@ -1,5 +1,5 @@
-//! What the tests of several libraries need: lists of few items, texts by their chunks, and writers
-//! that refuse texts.
+//! What the tests of several libraries need: lists of few items, texts by their chunks, random
+//! numbers, and writers that refuse texts.
 
 use lit_model::{ChunkKind, ChunkedString, StringChunk};
 use std::alloc::Global;
@@ -39,6 +39,25 @@ fn kind_of(chunk: &str) -> (ChunkKind, &str) {
         return (ChunkKind::Math, math);
     }
     (ChunkKind::Normal, chunk)
+}
+
+/// A generator of numbers: that of Knuth's MMIX.
+#[derive(Drop)]
+pub(crate) struct Numbers(u64);
+
+impl Numbers {
+    pub(crate) fn from(seed: u64) -> Numbers {
+        Numbers(seed)
+    }
+
+    /// The next number below a bound.
+    pub(crate) fn below(&mut self, bound: u64) -> u64 {
+        self.0 = self
+            .0
+            .wrapping_mul(6_364_136_223_846_793_005)
+            .wrapping_add(1_442_695_040_888_963_407);
+        (self.0 >> 33) % bound
+    }
 }
 
 /// A writer that takes the given number of texts and refuses those after them.

@@ -1,6 +1,7 @@
 //! The answers to what a row asks of its style, its nodes and its cite, in words.
 
 use crate::cite::{CITE, properties, special_form, start};
+use crate::driver::list_style;
 use crate::entry::entry;
 use crate::fault::Fault;
 use crate::form::Forms;
@@ -17,6 +18,7 @@ use csl::style::RenderingElement;
 use csl::{
     CiteProperties, InstanceContext, Scope, Style, bibliography_entry, cite, cite_pair, render_pair,
 };
+use csl_list::ListStyle;
 use std::alloc::Global;
 
 /// The lines that a row consists of. All but those of the style are parsed for each question.
@@ -72,13 +74,24 @@ fn answer_of_style<'s>(
 }
 
 impl<'r> Row<'r> {
-    /// The style: the forms of its own line come before those of all rows.
-    pub fn style(&self) -> Result<Style, Fault> {
+    /// The forms of the style: those of its own line come before those of all rows.
+    fn style_forms(&self) -> Result<Forms<'r>, Fault> {
         let mut forms = Forms::read(self.alloc, self.style)?;
         for form in Forms::read(self.alloc, self.base)?.items {
             forms.items.push(form)?;
         }
-        style(&forms)
+        Ok(forms)
+    }
+
+    /// The style.
+    pub fn style(&self) -> Result<Style, Fault> {
+        style(&self.style_forms()?)
+    }
+
+    /// The style with its options for a document.
+    pub fn list_style(&self) -> Result<ListStyle, Fault> {
+        let forms = self.style_forms()?;
+        list_style(&forms, style(&forms)?)
     }
 
     /// The nodes, if a line has some.

@@ -20,7 +20,7 @@ pub const CITE: &str = "position near-note ibid first-reference-note-number cita
 const RENDERING: &str = "before only form sort suppressed suppressing dated";
 
 /// The locator: `(locator page "7")`, or without a text one that the caller writes.
-fn specific_locator<'t>(forms: &Forms<'t>) -> Result<SpecificLocator<'t>, Fault> {
+pub fn specific_locator<'t>(forms: &Forms<'t>) -> Result<SpecificLocator<'t>, Fault> {
     match forms.items.as_slice() {
         [Form::Word(name), Form::Text(text)] => {
             let locator = forms.named(*name)?;

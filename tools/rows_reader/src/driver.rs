@@ -1,61 +1,45 @@
-//! What a style asks of a driver: texts around cites and lines and how the list looks, as
-//! `(around citation prefix="(" delimiter="; " suffix=")")`, and keys to sort by, as
-//! `(sort bibliography (key macro=author) (key issued sort=descending))`.
+//! What a style asks of a driver: texts around cites and works, what is told apart and collapsed, and
+//! how the list looks, as `(around citation prefix="(" delimiter="; " suffix=")")`, and keys to sort
+//! by, as `(sort bibliography (key macro=author) (key issued sort=descending))`.
 
 use crate::fault::Fault;
 use crate::form::{Form, Forms};
 use crate::names::Named;
-use csl::Sorting;
-use csl::style::{
-    Date, Layout, LayoutRenderingElement, Names, Number, Scope, Text, TextTarget, Variable,
+use csl::Style;
+use csl::style::Scope;
+use csl_list::{
+    AuthorSubstitute, BibliographyOptions, CitationOptions, GivenNameRule, KeySource, ListStyle,
+    SortKey, SubstituteRule,
 };
 use std::alloc::Global;
 
-/// What a driver writes and sets around cites and lines.
-const AROUND: &str =
-    "prefix suffix delimiter hanging-indent second-field-align entry-spacing line-spacing";
+/// The options of a citation, in CSL's names.
+const CITATION: &str = "prefix suffix delimiter class near-note-distance \
+    disambiguate-add-names disambiguate-add-givenname givenname-disambiguation-rule \
+    disambiguate-add-year-suffix collapse cite-group-delimiter year-suffix-delimiter \
+    after-collapse-delimiter";
 
-/// A key that works are sorted by: the layout of it, and where its text comes from.
-#[derive(Drop)]
-pub struct Key {
-    pub layout: Layout,
-    pub sorting: Sorting,
-    pub is_descending: bool,
-}
-
-/// The node that a key of a variable renders.
-fn node_of(alloc: Global, variable: Variable) -> Result<LayoutRenderingElement, Fault> {
-    match variable {
-        Variable::Number(variable) => Ok(Number::new(variable.into()).into()),
-        Variable::Page(variable) => Ok(Number::new(variable.into()).into()),
-        Variable::Standard(variable) => Ok(Text::variable(variable.into()).into()),
-        Variable::Date(variable) => Ok(Date::new(variable, Vec::new(alloc)).into()),
-        Variable::Name(variable) => { Ok(Names::new(alloc, vec![in alloc; variable]?).into()) }
-    }
-}
+/// The options of a bibliography, in CSL's names.
+const BIBLIOGRAPHY: &str = "prefix suffix delimiter hanging-indent second-field-align \
+    entry-spacing line-spacing subsequent-author-substitute subsequent-author-substitute-rule";
 
 /// The key of a list: `(key macro=author)` or `(key issued)`.
-fn key(forms: &Forms<'_>) -> Result<Key, Fault> {
+fn key(forms: &Forms<'_>) -> Result<SortKey, Fault> {
     forms.ensure_attributes(&["macro sort"])?;
     let is_descending = match forms.value("sort") {
         None | Some("ascending") => false,
         Some("descending") => true,
         Some(word) => return Err(forms.fault("neither ascending nor descending", word)),
     };
-    let (node, sorting) = match forms.text("macro")? {
+    let source = match forms.text("macro")? {
         Some(name) => {
             forms.ensure_lists("")?;
-            let target = TextTarget::Macro { name };
-            (Text::new(target).into(), Sorting::Macro)
+            KeySource::Macro(name)
         }
-        None => {
-            let variable = forms.named(forms.only_word()?)?;
-            (node_of(forms.alloc, variable)?, Sorting::Variable)
-        }
+        None => KeySource::Variable(forms.named(forms.only_word()?)?),
     };
-    Ok(Key {
-        layout: Layout::new(vec![in forms.alloc; node]?),
-        sorting,
+    Ok(SortKey {
+        source,
         is_descending,
     })
 }
@@ -82,25 +66,86 @@ fn list_of<'f, 't>(forms: &'f Forms<'t>, head: &str, scope: Scope) -> Option<&'f
     None
 }
 
-/// The attributes around a layout: what a driver writes and sets.
-pub fn around<'f, 't>(forms: &'f Forms<'t>, scope: Scope) -> Option<&'f Forms<'t>> {
-    list_of(forms, "around", scope)
-}
-
 /// The keys of a layout, in their order.
-pub fn keys(forms: &Forms<'_>, scope: Scope) -> Result<Vec<Key>, Fault> {
+fn keys(forms: &Forms<'_>, scope: Scope) -> Result<Vec<SortKey>, Fault> {
     let mut keys = Vec::new(forms.alloc);
     if let Some(inside) = list_of(forms, "sort", scope) {
-        for form in &inside.items {
-            if let Form::List(_, own) = form {
-                keys.push(key(own)?)?;
+        for form in inside.items.iter().skip(1) {
+            match form {
+                Form::List("key", own) => keys.push(key(own)?)?,
+                Form::Word(word)
+                | Form::Text(word)
+                | Form::Attribute(word, _)
+                | Form::List(word, _) => return Err(forms.fault("not a key", *word)),
             }
         }
     }
     Ok(keys)
 }
 
-/// Fails unless the first of the forms is the word of a layout.
+/// A text of these forms, or an empty one.
+fn text_of(forms: &Forms<'_>, name: &str) -> Result<String, Fault> {
+    Ok(forms.text(name)?.unwrap_or(String::new(forms.alloc)))
+}
+
+/// The options of citations, of the forms of a style.
+fn citation_options(forms: &Forms<'_>) -> Result<CitationOptions, Fault> {
+    let mut options = CitationOptions::new(forms.alloc);
+    options.keys = keys(forms, Scope::Citation)?;
+    if let Some(own) = list_of(forms, "around", Scope::Citation) {
+        own.ensure_attributes(&[CITATION])?;
+        options.prefix = text_of(own, "prefix")?;
+        options.suffix = text_of(own, "suffix")?;
+        options.delimiter = text_of(own, "delimiter")?;
+        options.collapse = own.choice("collapse")?;
+        options.cite_group_delimiter = own.text("cite-group-delimiter")?;
+        options.year_suffix_delimiter = own.text("year-suffix-delimiter")?;
+        options.after_collapse_delimiter = own.text("after-collapse-delimiter")?;
+        let distance = own.number("near-note-distance")?;
+        options.near_note_distance = distance.unwrap_or(options.near_note_distance);
+        options.adds_names = own.is_true("disambiguate-add-names")?;
+        options.adds_given_names = own.is_true("disambiguate-add-givenname")?;
+        let rule: Option<GivenNameRule> = own.choice("givenname-disambiguation-rule")?;
+        options.given_name_rule = rule.unwrap_or(options.given_name_rule);
+        options.adds_year_suffix = own.is_true("disambiguate-add-year-suffix")?;
+    }
+    Ok(options)
+}
+
+/// The text for names that the work before has too, if the style has one.
+fn author_substitute(forms: &Forms<'_>) -> Result<Option<AuthorSubstitute>, Fault> {
+    let rule: Option<SubstituteRule> = forms.choice("subsequent-author-substitute-rule")?;
+    let rule = rule.unwrap_or(SubstituteRule::CompleteAll);
+    let text = forms.text("subsequent-author-substitute")?;
+    Ok(text.map(|text| AuthorSubstitute { text, rule }))
+}
+
+/// The options of the bibliography, of the forms of a style.
+fn bibliography_options(forms: &Forms<'_>) -> Result<BibliographyOptions, Fault> {
+    let mut options = BibliographyOptions::new(forms.alloc);
+    options.keys = keys(forms, Scope::Bibliography)?;
+    if let Some(own) = list_of(forms, "around", Scope::Bibliography) {
+        own.ensure_attributes(&[BIBLIOGRAPHY])?;
+        options.prefix = text_of(own, "prefix")?;
+        options.suffix = text_of(own, "suffix")?;
+        options.hanging_indent = own.is_true("hanging-indent")?;
+        options.second_field_align = own.choice("second-field-align")?;
+        options.line_spacing = own.number("line-spacing")?.unwrap_or(options.line_spacing);
+        options.entry_spacing = own
+            .number("entry-spacing")?
+            .unwrap_or(options.entry_spacing);
+        options.author_substitute = author_substitute(own)?;
+    }
+    Ok(options)
+}
+
+/// The style of these forms with the options that they have.
+pub fn list_style(forms: &Forms<'_>, style: Style) -> Result<ListStyle, Fault> {
+    let (citation, bibliography) = (citation_options(forms)?, bibliography_options(forms)?);
+    Ok(ListStyle::new(forms.alloc, style, citation, Some(bibliography))?)
+}
+
+/// Fails unless the first of the forms is the word of a layout, and the only one.
 fn ensure_layout(forms: &Forms<'_>) -> Result<(), Fault> {
     match forms.items.first() {
         Some(Form::Word(word)) if Scope::from_name(*word).is_some() => Ok(()),
@@ -114,24 +159,16 @@ pub fn ensure_driver(forms: &Forms<'_>) -> Result<(), Fault> {
         match form {
             Form::List("around", inside) => {
                 ensure_layout(inside)?;
-                inside.ensure_attributes(&[AROUND])?;
                 let _layout = inside.only_word()?;
             }
             Form::List("sort", inside) => {
                 ensure_layout(inside)?;
                 inside.ensure_attributes(&[])?;
-                for form in inside.items.iter().skip(1) {
-                    match form {
-                        Form::List("key", own) => drop(key(own)?),
-                        Form::Word(word)
-                        | Form::Text(word)
-                        | Form::Attribute(word, _)
-                        | Form::List(word, _) => return Err(forms.fault("not a key", *word)),
-                    }
-                }
             }
             _ => {}
         }
     }
+    drop(citation_options(forms)?);
+    drop(bibliography_options(forms)?);
     Ok(())
 }

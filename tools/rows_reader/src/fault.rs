@@ -2,6 +2,7 @@
 
 use csl::literature::NumericError;
 use csl::{Memory, RenderError, StyleError};
+use csl_list::{ListError, ListStyleError};
 use std::alloc::{AllocError, AllocFailed, Global};
 use std::fmt;
 
@@ -16,6 +17,10 @@ pub enum Fault {
     Word(&'static str, String),
     /// The reason why a style is refused.
     Refused(StyleError),
+    /// The reason why a style is refused with its options.
+    RefusedOptions(ListStyleError),
+    /// Why a document has no list.
+    NoList(ListError),
 }
 
 impl Fault {
@@ -35,6 +40,8 @@ impl Fault {
             Fault::Word(reason, word) if word.is_empty() => Ok(String::from_str(alloc, *reason)?),
             Fault::Word(reason, word) => Ok(format!(in alloc; "{reason}: {word}")?),
             Fault::Refused(error) => Ok(format!(in alloc; "{error}")?),
+            Fault::RefusedOptions(error) => Ok(format!(in alloc; "{error}")?),
+            Fault::NoList(error) => Ok(format!(in alloc; "{error}")?),
         }
     }
 }
@@ -74,6 +81,24 @@ impl From<StyleError> for Fault {
         match error {
             StyleError::Memory => Fault::Memory,
             error => Fault::Refused(error),
+        }
+    }
+}
+
+impl From<ListStyleError> for Fault {
+    fn from(error: ListStyleError) -> Fault {
+        match error {
+            ListStyleError::Memory => Fault::Memory,
+            error => Fault::RefusedOptions(error),
+        }
+    }
+}
+
+impl From<ListError> for Fault {
+    fn from(error: ListError) -> Fault {
+        match error {
+            ListError::Memory => Fault::Memory,
+            error => Fault::NoList(error),
         }
     }
 }

@@ -15,6 +15,9 @@ mod fault;
 mod form;
 mod items;
 mod layouts;
+mod list_answers;
+mod list_lines;
+mod lists;
 mod literature;
 mod missing;
 mod name_nodes;
@@ -107,7 +110,8 @@ fn main(rt: HostRuntime) -> ExitCode {
         Ok(false) => return ExitCode::FAILURE,
         Err(Fault::Memory) => (3, "out of memory"),
         Err(Fault::Wrong(reason) | Fault::Word(reason, _)) => (2, reason),
-        Err(Fault::Refused(_)) => (2, "a style is refused"),
+        Err(Fault::Refused(_) | Fault::RefusedOptions(_)) => (2, "a style is refused"),
+        Err(Fault::NoList(_)) => (2, "a document has no list"),
     };
     // If this line cannot be printed, the status still reports the failure.
     let _ = rt.eprintln(reason);

@@ -37,6 +37,8 @@ pub enum Question {
     OfLayout(OfLayout),
     /// A question about a tree or HTML.
     OfTree(OfTree),
+    /// A question about the citations and the bibliography of a document.
+    OfList(OfList),
     /// Whether a text is no HTML.
     NotHtml,
     /// What the work answers.
@@ -81,6 +83,27 @@ pub enum OfTree {
     Leaf,
     /// An element, or the last text.
     Found,
+}
+
+/// A question about a document. Its citations and the works of its bibliography count from 1.
+#[derive(Clone, Copy)]
+pub enum OfList {
+    Citation(usize, As),
+    Item(usize, As),
+    /// The works of the bibliography, in their order.
+    Order,
+    /// How the bibliography looks.
+    Looks,
+    /// Why the document has no list.
+    Error,
+}
+
+/// How a content is wanted.
+#[derive(Clone, Copy)]
+pub enum As {
+    Plain,
+    Html,
+    Tree,
 }
 
 /// The text between quotes, or the text itself if it is in none.
@@ -200,6 +223,45 @@ fn of_cite<'l>(
     Ok(Some(found))
 }
 
+/// The place that the answer to a question about a document begins with, and the wanted answer.
+fn placed<'l>(alloc: Global, rest: &'l str, form: As) -> Result<(usize, &'l str), Fault> {
+    let (place, wanted) = rest.split_once(':').unwrap_or((rest, ""));
+    let wanted = wanted.trim_start_matches(' ');
+    match (place.parse::<usize>(), form) {
+        (Ok(place), As::Tree) => Ok((place, wanted)),
+        (Ok(place), As::Plain | As::Html) => Ok((place, unquoted(wanted))),
+        (Err(_), _) => Err(Fault::of_word(alloc, "not a number", place)),
+    }
+}
+
+/// The question of a line about a document, and the wanted answer.
+fn of_list<'l>(
+    alloc: Global,
+    word: &str,
+    rest: &'l str,
+) -> Result<Option<(OfList, &'l str)>, Fault> {
+    let (head, form) = match word.split_once('-') {
+        Some((head, "html")) => (head, As::Html),
+        Some((head, "tree")) => (head, As::Tree),
+        _ => (word, As::Plain),
+    };
+    let found = match head {
+        "cited" => {
+            let (place, wanted) = placed(alloc, rest, form)?;
+            (OfList::Citation(place, form), wanted)
+        }
+        "item" => {
+            let (place, wanted) = placed(alloc, rest, form)?;
+            (OfList::Item(place, form), wanted)
+        }
+        "items" => (OfList::Order, rest),
+        "looks" => (OfList::Looks, rest),
+        "list-error" => (OfList::Error, rest),
+        _ => return Ok(None),
+    };
+    Ok(Some(found))
+}
+
 /// The question of a line, and the wanted answer, if the line has a question.
 pub fn question<'l>(
     alloc: Global,
@@ -211,6 +273,9 @@ pub fn question<'l>(
     }
     if let Some((found, wanted)) = of_layout(alloc, word, rest)? {
         return Ok(Some((Question::OfLayout(found), wanted)));
+    }
+    if let Some((found, wanted)) = of_list(alloc, word, rest)? {
+        return Ok(Some((Question::OfList(found), wanted)));
     }
     of_one(alloc, word, rest)
 }

@@ -7,7 +7,8 @@ use crate::answers::Row;
 use crate::cite::properties;
 use crate::fault::Fault;
 use crate::form::Forms;
-use crate::question::{Question, question};
+use crate::list_lines::ListLines;
+use crate::question::{OfList, Question, question};
 use crate::subjects::split_line;
 use crate::tree_answers::add_not_html;
 use csl::style::StyleError;
@@ -30,6 +31,7 @@ pub struct Rows {
     entry: String,
     beside: String,
     cite: String,
+    list: ListLines,
     /// The style of the base alone, once it is made.
     style_of_base: Option<Style>,
     /// The style of a row with a style line of its own, once it is made.
@@ -60,6 +62,7 @@ impl Rows {
             entry: String::new(alloc),
             beside: String::new(alloc),
             cite: String::new(alloc),
+            list: ListLines::new(alloc),
             style_of_base: None,
             style_of_row: None,
             line: String::new(alloc),
@@ -171,6 +174,7 @@ impl Rows {
         self.entry.clear();
         self.beside.clear();
         self.cite.clear();
+        self.list.clear();
         outcome
     }
 
@@ -178,14 +182,47 @@ impl Rows {
         if !self.is_trial {
             return Err(Fault::Wrong("no line says what is wanted of the row that ends here"));
         }
+        if !self.list.is_empty() {
+            return self.print_list(rt);
+        }
         let plain = self.answer(Question::Text(BufWriteFormat::Plain), "")?;
         let html = self.answer(Question::Text(BufWriteFormat::Html), "")?;
         print_came(rt, self.file.as_str(), self.number, "plain", plain.as_str())?;
         print_came(rt, self.file.as_str(), self.number, "html", html.as_str())
     }
 
+    /// Prints the citations and the bibliography of a row that wants nothing of them.
+    fn print_list(&mut self, rt: &impl Print) -> Result<(), Fault> {
+        let mut list = mem::replace(&mut self.list, ListLines::new(self.alloc));
+        let came = list.came(self.row());
+        self.list = list;
+        for (word, text) in &came? {
+            print_came(
+                rt,
+                self.file.as_str(),
+                self.number,
+                word.as_str(),
+                text.as_str(),
+            )?;
+        }
+        Ok(())
+    }
+
+    /// The answer of the row's document to a question.
+    fn answer_of_list(&mut self, question: OfList) -> Result<String, Fault> {
+        let mut list = mem::replace(&mut self.list, ListLines::new(self.alloc));
+        let answer = list.answer(self.row(), question);
+        self.list = list;
+        answer
+    }
+
     /// Keeps what a line says of the row, and fails if it cannot be parsed.
     fn keep(&mut self, line: &str, word: &str, rest: &str) -> Result<(), Fault> {
+        if self.list.keep(word, rest, !self.is_open)? {
+            self.is_open = true;
+            return Ok(());
+        }
+        self.list.forget();
         let kept = match word {
             "base" => &mut self.base,
             "style" => &mut self.style,
@@ -247,6 +284,9 @@ impl Rows {
             let mut words = String::new(self.alloc);
             add_not_html(&mut words, self.alloc, wanted)?;
             return Ok(words);
+        }
+        if let Question::OfList(question) = question {
+            return self.answer_of_list(question);
         }
         if !self.subject.is_empty() {
             return self.row().answer_of_subject(question, wanted);

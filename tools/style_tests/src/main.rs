@@ -1,5 +1,5 @@
 //! Runs the first program of `docs/CALLING.md`, and cites two entries in each style that
-//! `tools/test_style` converts.
+//! `tools/test_style` converts: one by one, and in a document.
 #![tactic(auto)]
 
 mod author_date;
@@ -10,10 +10,11 @@ use csl::entry::{IbidState, LocatorPayload, SpecificLocator, SpeculativeCiteProp
 use csl::literature::{
     Date, Entry, EntryType, FormatString, MaybeTyped, Numeric, Person, Publisher,
 };
-use csl::style::{Layout, Locator, Style};
-use csl::{
-    BufWriteFormat, CitationNumber, CiteProperties, DisambiguateState, ElemChildren, Error, Scope,
-    Sorting,
+use csl::style::{Locator, Style};
+use csl::{BufWriteFormat, CitationNumber, CiteProperties, DisambiguateState, ElemChildren, Error};
+use csl_list::{
+    BibliographyDriver, CitationItem, CitationRequest, ListError, ListStyle, ListedWorks,
+    RenderedBibliography, SecondFieldAlign,
 };
 use others::{french, notes, numeric};
 use std::alloc::Global;
@@ -24,6 +25,8 @@ use std::io;
 pub enum CiteError {
     #[error("{0}")]
     Csl(#[from] Error),
+    #[error("{0}")]
+    List(#[from] ListError),
     #[error("{0}")]
     Stream(#[from] io::Error),
 }
@@ -137,58 +140,66 @@ fn show_line(
     }
 }
 
-/// Prints both works in one citation, with the texts that the style has around the cites.
-fn show_citation(
-    rt: &(impl Print + AllocGlobal),
-    name: &str,
-    style: &Style,
-    (prefix, suffix, delimiter): (&str, &str, &str),
-    (machine, mixture): (&Entry, &Entry),
-) -> Result<(), CiteError> {
-    let (alloc, second) = (rt.alloc(), Cite { number: 1, ..FIRST });
-    let first = csl::cite(alloc, style, machine, &properties(FIRST)).map_err(Error::from)?;
-    let second = csl::cite(alloc, style, mixture, &properties(second)).map_err(Error::from)?;
-    let (first, second) = (first.content, second.content);
-    println!(rt; "{name}: {prefix}{first}{delimiter}{second}{suffix}")?;
-    Ok(())
-}
-
-/// Prints the keys that an entry is sorted by.
-fn show_keys(
-    rt: &(impl Print + AllocGlobal),
-    name: &str,
-    style: &Style,
-    keys: &[(Layout, Sorting, bool)],
-    entry: &Entry,
-) -> Result<(), CiteError> {
-    let (alloc, scope, first) = (rt.alloc(), Scope::Bibliography, properties(FIRST));
-    for (layout, sorting, is_descending) in keys {
-        let key = csl::sort_key(alloc, style, entry, &first, layout, scope, *sorting);
-        let key = key.map_err(Error::from)?;
-        let way = if *is_descending {
-            "downwards"
-        } else {
-            "upwards"
-        };
-        println!(rt; "{name}: {key}, {way}")?;
+/// A citation of the works at these places.
+fn request(alloc: Global, works: &[usize]) -> Result<CitationRequest<'static>, ListError> {
+    let mut request = CitationRequest::new(alloc);
+    for work in works {
+        request.items.push(CitationItem::new(*work))?;
     }
-    Ok(())
+    Ok(request)
 }
 
-/// Prints how a list looks.
-fn show_looks(
+/// Prints a document that cites the second work, and then both.
+fn show_list(
+    rt: &(impl Print + AllocGlobal),
+    name: &str,
+    style: &ListStyle,
+    works: &[Entry],
+) -> Result<(), CiteError> {
+    let alloc = rt.alloc();
+    let mut driver = BibliographyDriver::new(alloc);
+    for works in [&[1_usize] as &[usize], &[0, 1]] {
+        driver
+            .citation(request(alloc, works)?)
+            .map_err(ListError::from)?;
+    }
+    let list = driver.finish(alloc, style, works, ListedWorks::All)?;
+    for citation in &list.citations {
+        let content = &citation.content;
+        println!(rt; "{name}, citation: {content}")?;
+    }
+    match &list.bibliography {
+        Some(bibliography) => show_bibliography(rt, name, bibliography),
+        None => Ok(println!(rt; "{name}, list: none")?),
+    }
+}
+
+/// Prints how a bibliography looks, and its works.
+fn show_bibliography(
     rt: &impl Print,
     name: &str,
-    is_hanging: bool,
-    align: Option<&str>,
-    spacing: u32,
-    lines: u32,
+    bibliography: &RenderedBibliography,
 ) -> Result<(), CiteError> {
-    let (hangs, align) = (
-        if is_hanging { "hanging" } else { "even" },
-        align.unwrap_or("none"),
-    );
-    Ok(println!(rt; "{name}: {hangs}, {align}, {spacing}, {lines}")?)
+    let hangs = if bibliography.hanging_indent {
+        "hanging"
+    } else {
+        "even"
+    };
+    let align = match bibliography.second_field_align {
+        Some(SecondFieldAlign::Flush) => "flush",
+        Some(SecondFieldAlign::Margin) => "margin",
+        None => "none",
+    };
+    let (entries, lines) = (bibliography.entry_spacing, bibliography.line_spacing);
+    println!(rt; "{name}, list: {hangs}, {align}, {entries}, {lines}")?;
+    for item in &bibliography.items {
+        let content = &item.content;
+        match &item.first_field {
+            Some(first) => println!(rt; "{name}, item: {first} | {content}")?,
+            None => println!(rt; "{name}, item: {content}")?,
+        };
+    }
+    Ok(())
 }
 
 /// Prints cites and lines by author and date.
@@ -205,21 +216,7 @@ fn show_author_date(
     show_cite(rt, "author-date, a page", style, machine, page)?;
     show_cite(rt, "author-date, editors", style, mixture, FIRST)?;
     show_line(rt, "author-date, line 1", style, machine, 0)?;
-    show_line(rt, "author-date, line 2", style, mixture, 1)?;
-    let (around, works) = (author_date::CITATION, (machine, mixture));
-    show_citation(rt, "author-date, citation", style, around, works)?;
-    let keys = author_date::bibliography_keys(rt.alloc())?;
-    show_keys(rt, "author-date, key", style, &keys, machine)?;
-    let (prefix, suffix, delimiter) = author_date::BIBLIOGRAPHY;
-    println!(rt; "author-date, around a line: {prefix}..{suffix}{delimiter}")?;
-    show_looks(
-        rt,
-        "author-date, list",
-        author_date::HANGING_INDENT,
-        author_date::SECOND_FIELD_ALIGN,
-        author_date::ENTRY_SPACING,
-        author_date::LINE_SPACING,
-    )
+    show_line(rt, "author-date, line 2", style, mixture, 1)
 }
 
 /// Prints notes.
@@ -256,14 +253,7 @@ fn show_notes(
     show_cite(rt, "note, later with a line", style, machine, line)?;
     show_cite(rt, "note, editors", style, mixture, FIRST)?;
     show_cite(rt, "note, later", style, mixture, later)?;
-    show_line(rt, "notes, line", style, mixture, 0)?;
-    show_citation(
-        rt,
-        "notes, citation",
-        style,
-        notes::CITATION,
-        (machine, mixture),
-    )
+    show_line(rt, "notes, line", style, mixture, 0)
 }
 
 /// Prints numbers and the lines that they lead to.
@@ -277,39 +267,25 @@ fn show_numeric(
     show_cite(rt, "number 1", style, machine, FIRST)?;
     show_cite(rt, "number 2", style, mixture, second)?;
     show_line(rt, "number 1, line", style, machine, 0)?;
-    show_line(rt, "number 2, line", style, mixture, 1)?;
-    show_citation(
-        rt,
-        "numbers, citation",
-        style,
-        numeric::CITATION,
-        (machine, mixture),
-    )?;
-    let keys = numeric::citation_keys(rt.alloc())?;
-    show_keys(rt, "numbers, key", style, &keys, machine)?;
-    show_looks(
-        rt,
-        "numbers, list",
-        numeric::HANGING_INDENT,
-        numeric::SECOND_FIELD_ALIGN,
-        numeric::ENTRY_SPACING,
-        numeric::LINE_SPACING,
-    )
+    show_line(rt, "number 2, line", style, mixture, 1)
 }
 
 fn main(rt: HostRuntime) -> Result<(), CiteError> {
     let alloc = rt.alloc();
     first::print_cite(&rt)?;
-    let machine = machine(alloc)?;
-    let mixture = mixture(alloc)?;
-    show_author_date(&rt, &author_date::style(alloc)?, &machine, &mixture)?;
-    show_notes(&rt, &notes::style(alloc)?, &machine, &mixture)?;
-    show_numeric(&rt, &numeric::style(alloc)?, &machine, &mixture)?;
+    let works = vec![in alloc; machine(alloc)?, mixture(alloc)?].map_err(Error::from)?;
+    let (machine, mixture) = (&works[0], &works[1]);
+    show_author_date(&rt, &author_date::style(alloc)?, machine, mixture)?;
+    show_list(&rt, "author-date", &author_date::list_style(alloc)?, &works)?;
+    show_notes(&rt, &notes::style(alloc)?, machine, mixture)?;
+    show_list(&rt, "notes", &notes::list_style(alloc)?, &works)?;
+    show_numeric(&rt, &numeric::style(alloc)?, machine, mixture)?;
+    show_list(&rt, "numbers", &numeric::list_style(alloc)?, &works)?;
     show_line(
         &rt,
         "the library's French",
         &french::style(alloc)?,
-        &machine,
+        machine,
         0,
     )
 }

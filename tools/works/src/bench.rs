@@ -1,7 +1,7 @@
 //! Works of a size. Each returns a checksum of what it made.
 
 mod asked;
-mod bibliography;
+pub mod bibliography;
 pub mod cites;
 mod entry;
 mod full_note;
@@ -13,12 +13,13 @@ mod nested;
 mod published;
 mod published_style;
 pub mod render;
-mod rows;
+pub mod rows;
 mod strangers;
 pub mod styles;
 mod tree;
 mod whole;
 
+use crate::documents;
 use crate::error::WorkError;
 use std::alloc::Global;
 
@@ -65,6 +66,8 @@ pub fn count(alloc: Global, name: &str, size: usize) -> Result<usize, WorkError>
         "published_cites" => published::published_cites(alloc, size),
         "published_lines" => published::published_lines(alloc, size),
         "whole" => whole::whole(alloc, size),
+        "list_equal" => documents::equal_cites(alloc, size),
+        "list_author" => documents::one_author(alloc, size),
         "doubling" => nested::doubling(alloc, size),
         "doubling_named" => nested::doubling_named(alloc, size),
         "doubling_size" => nested::doubling_size(alloc, size),

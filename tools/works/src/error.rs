@@ -3,6 +3,7 @@
 use crate::reader::fault::Fault;
 use csl::literature::NumericError;
 use csl::{Error, HtmlError, Memory, RenderError, StyleError};
+use csl_list::{ListError, ListStyleError};
 use std::alloc::{AllocError, AllocFailed};
 use std::fmt;
 
@@ -97,6 +98,27 @@ impl From<Error> for WorkError {
             Error::NotNumeric => WorkError::Unexpected("not numeric"),
             Error::NotHtml => WorkError::Unexpected("not html"),
             Error::DateOutOfRange => WorkError::Unexpected("month or day out of range"),
+        }
+    }
+}
+
+/// The styles of works have the macros of their keys.
+impl From<ListStyleError> for WorkError {
+    fn from(error: ListStyleError) -> WorkError {
+        match error {
+            ListStyleError::Memory => WorkError::Memory,
+            ListStyleError::NoSuchMacro { .. } => WorkError::Unexpected("a key lacks its macro"),
+        }
+    }
+}
+
+impl From<ListError> for WorkError {
+    fn from(error: ListError) -> WorkError {
+        match error {
+            ListError::Memory => WorkError::Memory,
+            ListError::Limit => WorkError::Unexpected("beyond the limit"),
+            ListError::NoSuchWork { .. } => WorkError::Unexpected("a cited work is not there"),
+            ListError::TooManyWorks => WorkError::Unexpected("too many works"),
         }
     }
 }

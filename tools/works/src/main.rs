@@ -17,6 +17,7 @@
 
 mod bench;
 mod deep;
+mod documents;
 mod error;
 mod nodes;
 mod reader;

@@ -7,12 +7,13 @@ mod made;
 mod styles;
 mod trees;
 
+use crate::documents;
 use crate::error::WorkError;
 pub use cites::text_of;
 use std::alloc::Global;
 
 /// Makes a call. If it runs out of memory, makes it once more.
-fn twice<T: Drop, F: FnMut() -> Result<T, WorkError>>(mut call: F) -> Result<T, WorkError> {
+pub fn twice<T: Drop, F: FnMut() -> Result<T, WorkError>>(mut call: F) -> Result<T, WorkError> {
     match call() {
         Err(WorkError::Memory) => call(),
         result => result,
@@ -22,6 +23,7 @@ fn twice<T: Drop, F: FnMut() -> Result<T, WorkError>>(mut call: F) -> Result<T, 
 /// Does the work with this name, and returns its result.
 pub fn result(alloc: Global, name: &str) -> Result<String, WorkError> {
     match name {
+        "list" => documents::list(alloc),
         "macros" => styles::style_of(alloc, &styles::CHAIN),
         "cycle" => styles::style_of(alloc, &styles::CYCLE),
         "locale" => made::locale(alloc),

@@ -4,6 +4,7 @@
 use crate::csl_finish_tests::case::marked;
 use crate::csl_finish_tests::finish::style_of;
 use crate::csl_finish_tests::trees::{describe, read};
+use crate::shared::Numbers;
 use csl_finish::{apply_text_case, finish, fold, is_case_mark, without_case_marks};
 use csl_languages::Language;
 use std::alloc::Global;
@@ -77,21 +78,6 @@ static CASED: [&str; 28] = [
     "\u{fddf}-",
 ];
 
-/// A generator of numbers: that of Knuth's MMIX.
-#[derive(Drop)]
-struct Numbers(u64);
-
-impl Numbers {
-    /// The next number below a bound.
-    fn below(&mut self, bound: u64) -> u64 {
-        self.0 = self
-            .0
-            .wrapping_mul(6_364_136_223_846_793_005)
-            .wrapping_add(1_442_695_040_888_963_407);
-        (self.0 >> 33) % bound
-    }
-}
-
 /// A description of sixteen pieces, with elements around some of them.
 fn description(rt: &impl Abort, alloc: Global, numbers: &mut Numbers, pieces: &[&str]) -> String {
     let mut text = String::from_str(alloc, "a").expect(rt, "memory");
@@ -148,7 +134,7 @@ fn assert_kept(rt: &impl Abort, alloc: Global, language: Language, source: &str)
 
 #[test]
 fn letters_and_links_stay(rt: HostRuntime) {
-    let mut numbers = Numbers(93);
+    let mut numbers = Numbers::from(93);
     for language in [
         Language::English,
         Language::BritishEnglish,
@@ -178,7 +164,7 @@ fn assert_cased(rt: &impl Abort, alloc: Global, source: &str, is_english: bool) 
 #[test]
 fn case_alone_changes(rt: HostRuntime) {
     let alloc = rt.alloc();
-    let mut numbers = Numbers(96);
+    let mut numbers = Numbers::from(96);
     for index in 0..400 {
         let source = description(&rt, alloc, &mut numbers, &CASED);
         let source = marked(&rt, alloc, source.as_str());

@@ -9,6 +9,9 @@ use csl::style::{
     NameAnd, NameAsSortOrder, NameForm, NamePartName, OrdinalMatch, PageRangeFormat, Scope,
     TermForm, TestPosition, TextDecoration, VerticalAlign,
 };
+use csl_list::{
+    CitePurpose, Collapse, GivenNameRule, ListedWorks, SecondFieldAlign, SubstituteRule,
+};
 
 named! {
     LongShortForm { "long" Long, "short" Short }
@@ -60,9 +63,28 @@ named! {
         "original" Original
     }
     IbidState { "different" Different, "ibid" Ibid, "ibid-with-locator" IbidWithLocator }
+    CitePurpose {
+        "author" Author, "year" Year, "full" Full, "prose" Prose,
+        "suppress-author" SuppressAuthor
+    }
+    ListedWorks { "all" All, "cited" Cited }
+    Collapse {
+        "citation-number" CitationNumber, "year" Year, "year-suffix" YearSuffix,
+        "year-suffix-ranged" YearSuffixRanged
+    }
+    GivenNameRule {
+        "all-names" AllNames, "all-names-with-initials" AllNamesWithInitials,
+        "primary-name" PrimaryName, "primary-name-with-initials" PrimaryNameWithInitials,
+        "by-cite" ByCite
+    }
+    SubstituteRule {
+        "complete-all" CompleteAll, "complete-each" CompleteEach, "partial-each" PartialEach,
+        "partial-first" PartialFirst
+    }
 }
 
 names! {
+    SecondFieldAlign { "margin" Margin, "flush" Flush }
     FontStyle { "normal" Normal, "italic" Italic }
     FontVariant { "normal" Normal, "small-caps" SmallCaps }
     FontWeight { "normal" Normal, "bold" Bold, "light" Light }

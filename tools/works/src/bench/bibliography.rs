@@ -8,7 +8,8 @@ use csl::style::Style;
 use csl_samples::BuiltIn;
 use std::alloc::Global;
 
-const MACROS: &str = "\
+/// The macros: `entry` is a line of the bibliography.
+pub const MACROS: &str = "\
     (macro name=entry \
         (group delimiter='. ' (text macro=authors-and-year) (text macro=work) \
             (text macro=access))) \

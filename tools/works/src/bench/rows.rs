@@ -8,7 +8,7 @@ use csl::style::{CslMacro, Style, Text};
 use std::alloc::Global;
 
 /// The macros of a text, each a list `(macro name=year (date issued year))`.
-fn macros(alloc: Global, text: &str) -> Result<Vec<CslMacro>, WorkError> {
+pub fn macros(alloc: Global, text: &str) -> Result<Vec<CslMacro>, WorkError> {
     let forms = Forms::read(alloc, text)?;
     let mut macros = Vec::new(alloc);
     for form in &forms.items {

@@ -1,0 +1,16 @@
+-- The definitions that the contracts of `csl_list` cite.
+pub mod Bibliography
+pub mod Citation
+pub mod CiteContent
+pub mod Collapse
+pub mod Driver
+pub mod Errors
+pub mod Identity
+pub mod Listed
+pub mod ListStyle
+pub mod Locator
+pub mod Options
+pub mod Pieces
+pub mod Position
+pub mod Request
+pub mod Told
