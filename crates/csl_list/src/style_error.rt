@@ -5,6 +5,7 @@ ghost use Rattle.csl_list.specs.declared.style_error.ListStyleError.TheVariants 
 
 use csl_common::Memory;
 use csl_style::Scope;
+use std::alloc::{AllocError, AllocFailed};
 use std::error::Error;
 use std::fmt;
 
@@ -53,6 +54,22 @@ impl From<Memory> for ListStyleError {
     ghost from_gives = { λ _ e. e ≡ errors.Memory };
 
     fn from(_error: Memory) -> ListStyleError {
+        ListStyleError::Memory
+    }
+}
+
+impl From<AllocError> for ListStyleError {
+    ghost from_gives = { λ _ e. e ≡ errors.Memory };
+
+    fn from(_error: AllocError) -> ListStyleError {
+        ListStyleError::Memory
+    }
+}
+
+impl<T: Drop> From<AllocFailed<T>> for ListStyleError {
+    ghost from_gives = { λ _ e. e ≡ errors.Memory };
+
+    fn from(_error: AllocFailed<T>) -> ListStyleError {
         ListStyleError::Memory
     }
 }

@@ -1,4 +1,3 @@
 mod Directions
 mod KeptLines
 mod Pages
-mod Places

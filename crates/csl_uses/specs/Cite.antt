@@ -1,7 +1,7 @@
 -- Cites of the examples: with a page of the entry, and in the running text (CSL 1.0.2, Locators;
 -- Citation). A cite in the running text, as `Kwan (2014)`, is the cite by its authors alone, and
 -- the cite without them in parentheses.
-use Rattle.std.specs.Prelude.{ℕ, List, Some, ◌++◌, codes, map}
+use Rattle.std.specs.Prelude.{ℕ, List, Some, ◌++◌, codes}
 use Rattle.csl.specs.Style.declared.taxonomy.Locator.TheVariants.{Page}
 use Rattle.csl.specs.Entry.Cite.{CiteState, first_cite, no_disambiguation, payload_text}
 use Rattle.csl.specs.Style.Style.{StyleParts}
@@ -31,7 +31,3 @@ without_authors = SuppressAuthor
 -- the cite in the running text
 abbrev pub in_text : StyleParts → Answers → List ℕ
 in_text style answers = part_of_cite style by_authors answers ++ codes " (" ++ part_of_cite style without_authors answers ++ codes ")"
-
--- the cites of works in the running text
-abbrev pub all_in_text : {T : Type 0} → (T → Answers) → StyleParts → List T → List (List ℕ)
-all_in_text answers style works = map (λ work. in_text style (answers work)) works

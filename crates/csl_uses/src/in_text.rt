@@ -1,10 +1,9 @@
-//! Cites in the running text, as `Kwan (2014)`, and works in the order of their names and years.
+//! Cites in the running text, as `Kwan (2014)`.
 //! Definitions: specs/Cite.antt.
 
-ghost use Rattle.std.specs.Prelude.{◌≡◌, IfOk, IsPermutation, map, string_bytes};
+ghost use Rattle.std.specs.Prelude.{◌≡◌, IfOk, string_bytes};
 ghost use Rattle.csl_uses.specs.Cite as spec;
 
-use crate::order::order_by_key;
 use csl::style::{
     CslMacro, Date, DatePart, DatePartName, DateVariable, Group, InheritableNameOptions, Layout,
     NameAnd, NameForm, NameVariable, Names, Style, StyleSettings, Text,
@@ -83,27 +82,4 @@ pub fn cite_in_text<T: EntryLike>(alloc: Global, style: &Style, entry: &T) -> Re
     let authors = part_of_cite(alloc, style, entry, authors)?;
     let rest = part_of_cite(alloc, style, entry, SpecialForm::SuppressAuthor)?;
     Ok(format!(in alloc; "{authors} ({rest})")?)
-}
-
-/// The cites of works in the running text, in the order of the works' names and years. A key has
-/// whole names, with the family name first.
-///
-/// # Errors
-/// [`Error::Memory`]: out of memory, here or in a work.
-#[tactic(auto, using(crate::proofs::Places::place_below))]
-pub fn sorted_cites<T: EntryLike>(
-    alloc: Global,
-    style: &Style,
-    works: &[T],
-) -> Result<Vec<String>, Error>
-    ensures { IfOk result (λ cites. IsPermutation (spec.all_in_text T.answers style.now works.now)
-        (map string_bytes cites.items)) }
-{
-    let layout = calling_author_year(alloc)?;
-    let order = order_by_key(alloc, style, &layout, works)?;
-    let mut cites = Vec::new(alloc);
-    for place in &order {
-        cites.push(cite_in_text(alloc, style, &works[*place])?)?;
-    }
-    Ok(cites)
 }

@@ -11,19 +11,20 @@ use csl::style::{
 };
 use csl::{BufWriteFormat, EntryLike, Error, Snapshot, named_by};
 use csl_finish::{fold, with_links_to, with_web_links};
+use csl_list::ListStyle;
 use csl_uses::book::{book_label, the_c_book};
 use csl_uses::by_date::{issue_key, order_by_issue};
 use csl_uses::by_snapshot::{cite_by_snapshot, key_by_snapshot};
 use csl_uses::cite::{bibliography_line, cite, house_style, page_cite, the_compilers_book};
+use csl_uses::document::{document, told_apart};
 use csl_uses::film::{Film, metropolis, title_of};
 use csl_uses::halves::{authors_half, is_other_half_silent, other_half};
-use csl_uses::in_text::{bare_style, cite_in_text, sorted_cites};
+use csl_uses::in_text::{bare_style, cite_in_text};
 use csl_uses::list::{annotate_first, count_new, lines, rename_first};
 use csl_uses::missing::missing_word;
 use csl_uses::namesakes::{book_by_miller, cites_apart, short_style};
 use csl_uses::page::{line_with_links_to, number_style, page, web_pages};
 use csl_uses::pair::{pair_of, the_novel, title_style};
-use csl_uses::whole_list::whole_list;
 use std::alloc::Global;
 use std::collections::HashMap;
 
@@ -82,19 +83,12 @@ fn three_books(alloc: Global) -> Result<Vec<Entry>, Error> {
     Ok(vec![in alloc; book, compilers, novel]?)
 }
 
-/// Writes the cites of three books in the running text, sorted by names and years.
+/// Writes the cites of three books in the running text.
 fn show_in_text(out: &mut String, alloc: Global) -> Result<(), WorkError> {
     let style = bare_style(alloc)?;
-    let books = three_books(alloc)?;
-    for text in &sorted_cites(alloc, &style, books.as_slice())? {
-        writeln!(out, "in the text: {text}")?;
+    for book in &three_books(alloc)? {
+        writeln!(out, "in the text: {}", cite_in_text(alloc, &style, book)?)?;
     }
-    let book = the_c_book(alloc)?;
-    writeln!(
-        out,
-        "one in the text: {}",
-        cite_in_text(alloc, &style, &book)?
-    )?;
     Ok(())
 }
 
@@ -182,18 +176,19 @@ fn show_list(out: &mut String, alloc: Global, style: &Style) -> Result<(), WorkE
     show_lines(out, alloc, style, &books, &mut kept)
 }
 
-/// Writes the cite and the line of each of these works, in the order of a key.
-fn show_listed(
+/// Writes a citation of each of these works, and their bibliography.
+fn show_document(
     out: &mut String,
     alloc: Global,
-    style: &Style,
-    key: &Layout,
+    style: &ListStyle,
     works: &[Entry],
 ) -> Result<(), WorkError> {
-    let mut list = whole_list(alloc, style, key, works)?;
-    for listed in list.iter_mut() {
-        let line = listed.line(alloc, style)?;
-        writeln!(out, "{}: {line}", listed.cite)?;
+    let document = document(alloc, style, works)?;
+    for citation in &document.citations {
+        writeln!(out, "citation: {citation}")?;
+    }
+    for line in &document.bibliography {
+        writeln!(out, "bibliography: {line}")?;
     }
     Ok(())
 }
@@ -206,12 +201,12 @@ fn books_by_millers(alloc: Global) -> Result<Vec<Entry>, Error> {
     Ok(vec![in alloc; berta, anna, again]?)
 }
 
-/// Writes two whole lists.
-fn show_whole_lists(out: &mut String, alloc: Global) -> Result<(), WorkError> {
+/// Writes two documents.
+fn show_documents(out: &mut String, alloc: Global) -> Result<(), WorkError> {
     let style = twelve::author_date_style(alloc)?;
-    let key = twelve::sort_key(alloc)?;
-    show_listed(out, alloc, &style, &key, &twelve::twelve_works(alloc)?)?;
-    show_listed(out, alloc, &style, &key, &books_by_millers(alloc)?)
+    let style = told_apart(alloc, style, "author-year-title")?;
+    show_document(out, alloc, &style, &twelve::twelve_works(alloc)?)?;
+    show_document(out, alloc, &style, &books_by_millers(alloc)?)
 }
 
 /// Writes names in the order of their folds.
@@ -287,7 +282,7 @@ pub fn text(alloc: Global) -> Result<String, WorkError> {
     show_snapshots(out, alloc, &book)?;
     show_namesakes(out, alloc)?;
     show_list(out, alloc, &style)?;
-    show_whole_lists(out, alloc)?;
+    show_documents(out, alloc)?;
     show_folds(out, alloc)?;
     show_finished(out, alloc, &style)?;
     show_finished(out, alloc, &unfinished::outside_style(alloc)?)?;

@@ -211,9 +211,3 @@ pub fn author_date_style(alloc: Global) -> Result<Style, Error> {
     let bibliography = Some(bibliography(alloc)?);
     Ok(Style::new(alloc, settings, macros, citation, bibliography, locales)?)
 }
-
-/// The sort key of the style, a call of the macro `author-year-title`.
-pub fn sort_key(alloc: Global) -> Result<Layout, Error> {
-    let call = Text::macro_call(alloc, "author-year-title")?;
-    Ok(Layout::new(vec![in alloc; call.into()]?))
-}
