@@ -1,0 +1,182 @@
+//! Cites: what the citation says of a cite (CSL 1.0.2, Choose: position; Locators; Number Variables;
+//! Disambiguation), and the part of it that is wanted.
+
+use crate::disambiguation::disambiguation;
+use crate::limits::WorkLimits;
+use csl_elements::Variable;
+use csl_entry::{
+    CertainCiteProperties, CitationNumber, CiteProperties, IbidState, LocatorPayload, NoteNumber,
+    SpecialForm, SpecificLocator, SpeculativeCiteProperties,
+};
+use csl_wire::{Code, Form, Reader, Step, WireError, within};
+use serde_json::Value;
+use std::alloc::Global;
+
+/// A cite, without its entry. It borrows the text of its locator from the JSON value.
+#[derive(Drop)]
+pub struct WireCite<'v> {
+    /// What the citation says of it.
+    pub properties: CiteProperties<'v>,
+    /// The part of it that is wanted, if not the whole.
+    pub form: Option<SpecialForm>,
+}
+
+/// The positions of a cite: whether it is the first of its entry, and how it relates to the cite
+/// before it.
+static POSITIONS: [(&str, (bool, IbidState)); 4] = [
+    ("first", (true, IbidState::Different)),
+    ("subsequent", (false, IbidState::Different)),
+    ("ibid", (false, IbidState::Ibid)),
+    ("ibid-with-locator", (false, IbidState::IbidWithLocator)),
+];
+
+/// The forms of a cite that show a part of it.
+static FORMS: [(&str, SpecialForm); 3] = [
+    ("first-date", SpecialForm::OnlyFirstDate),
+    ("year-suffix", SpecialForm::OnlyYearSuffix),
+    ("no-author", SpecialForm::SuppressAuthor),
+];
+
+/// The members of a locator.
+static LOCATOR: [&str; 2] = ["label", "value"];
+
+/// A locator. Without a text, the caller writes it.
+fn locator<'v>(reader: Reader, value: &'v Value) -> Result<SpecificLocator<'v>, WireError> {
+    let form = Form::of(reader, value, &[&LOCATOR])?;
+    let label = form.one_named("label")?;
+    match form.word("value")? {
+        Some(text) => {
+            if text.len() > reader.limits.text {
+                return Err(WireError::of(reader.alloc, Code::TooLong, "the text is too long").after(
+                    Step::Member("value"),
+                ));
+            }
+            Ok(SpecificLocator(label, LocatorPayload::Str(text)))
+        }
+        None => Ok(SpecificLocator(label, LocatorPayload::Transparent)),
+    }
+}
+
+/// The locator among the members.
+fn locator_of<'v>(
+    numbers: Reader,
+    form: Form<'v>,
+) -> Result<Option<SpecificLocator<'v>>, WireError> {
+    match form.member("locator") {
+        Some(value) => {
+            let locator = within(Step::Member("locator"), locator(numbers, value))?;
+            Ok(Some(locator))
+        }
+        None => Ok(None),
+    }
+}
+
+/// The citation number, which counts from 1. One that is absent is 1.
+fn citation_number(form: Form<'_>) -> Result<CitationNumber, WireError> {
+    let number = form.number("citation-number")?.unwrap_or(1);
+    match number.checked_sub(1).and_then(CitationNumber::new) {
+        Some(number) => Ok(number),
+        None => Err(WireError::of(
+            form.reader.alloc,
+            Code::OutOfRange,
+            "a citation number is from 1 to 2147483647",
+        )
+        .after(Step::Member("citation-number"))),
+    }
+}
+
+/// The number of the first note that cites the entry.
+fn first_note_number(form: Form<'_>) -> Result<Option<NoteNumber>, WireError> {
+    let Some(number) = form.number("first-reference-note-number")? else {
+        return Ok(None);
+    };
+    match NoteNumber::new(number) {
+        Some(number) => Ok(Some(number)),
+        None => Err(WireError::of(
+            form.reader.alloc,
+            Code::OutOfRange,
+            "a note number is from 0 to 2147483647",
+        )
+        .after(Step::Member("first-reference-note-number"))),
+    }
+}
+
+/// The part of the cite that is wanted, if not the whole.
+fn special_form(form: Form<'_>) -> Result<Option<SpecialForm>, WireError> {
+    let part = form.choice("form", &FORMS)?;
+    match form.named::<Variable>("only")? {
+        Some(variable) => match part {
+            Some(_) => Err(WireError::of(
+                form.reader.alloc,
+                Code::WrongType,
+                "a cite has one of form and only",
+            )),
+            None => Ok(Some(SpecialForm::VarOnly(variable))),
+        },
+        None => Ok(part),
+    }
+}
+
+/// The members of a cite.
+static CITE: [&str; 11] = [
+    "position",
+    "near-note",
+    "first-reference-note-number",
+    "citation-number",
+    "locator",
+    "index",
+    "disambiguate",
+    "year-suffix",
+    "names",
+    "form",
+    "only",
+];
+
+/// What the citation says of a cite.
+fn properties(
+    alloc: Global,
+    limits: WorkLimits,
+    form: Form<'_>,
+) -> Result<CiteProperties<'_>, WireError> {
+    let (is_first, ibid) = form
+        .choice("position", &POSITIONS)?
+        .unwrap_or((true, IbidState::Different));
+    let is_near_note = form.is_true("near-note")?;
+    let first_note_number = first_note_number(form)?;
+    let initial_idx = form.number("index")?.unwrap_or(0) as usize;
+    let locator = locator_of(limits.numbers(alloc), form)?;
+    let citation_number = citation_number(form)?;
+    let disambiguation = disambiguation(limits, form)?;
+    Ok(CiteProperties {
+        certain: CertainCiteProperties {
+            first_note_number,
+            is_first,
+            is_near_note,
+            initial_idx,
+        },
+        speculative: SpeculativeCiteProperties {
+            locator,
+            citation_number,
+            disambiguation,
+            ibid,
+        },
+    })
+}
+
+/// A cite. One without members is the first of its entry, without a locator.
+///
+/// # Errors
+/// [`WireError::Refused`]: the value is no cite within the limits.
+pub fn cite_of<'v>(
+    alloc: Global,
+    value: &'v Value,
+    limits: WorkLimits,
+) -> Result<WireCite<'v>, WireError> {
+    let form = Form::of(limits.texts(alloc), value, &[&CITE])?;
+    let part = special_form(form)?;
+    let properties = properties(alloc, limits, form)?;
+    Ok(WireCite {
+        properties,
+        form: part,
+    })
+}

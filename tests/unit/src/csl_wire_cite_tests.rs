@@ -1,0 +1,4 @@
+//! Tests of works and cites from JSON. Expected values are those of docs/WIRE.md, written out by
+//! hand.
+
+mod cites;
