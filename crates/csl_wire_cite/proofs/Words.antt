@@ -14,5 +14,5 @@ value_read w i c n h is low e = rw (take_more w i c h) (rw (sym is) (value-snoc 
 
 -- letters of a value above 0 are a word
 pub suffix_read : (w : List ℕ) (n : ℕ) → AreLetters w → word_value w ≡ n + 1 → IsSuffix w n
-suffix_read [] n h e = cc
+suffix_read [] n h e = let no : ⊥ = omega (arith, e) in absurd no
 suffix_read (c ∷ w) n h e = record { letters = (omega arith, h); place = omega (arith, e) }

@@ -4,13 +4,14 @@
 use Rattle.std.specs.Prelude.{◌≡◌, ◌+◌, ℕ, List, Bool, true, Option, Some, None, map, option_map, unwrap_or, codes}
 use Rattle.serde_json.specs.Data.{Data}
 use Rattle.serde_json.specs.Find.{as_str}
+use Rattle.csl_elements.specs.declared.taxonomy.Variable.{Variable}
 use Rattle.csl_entry.specs.Cite.{CiteState, LocatorView, Payload, payload_text, payload_transparent}
 use Rattle.csl_entry.specs.declared.citation.cite.IbidState.{IbidState}
 use Rattle.csl_entry.specs.declared.citation.cite.IbidState.TheVariants.{Different}
 use Rattle.csl_entry.specs.declared.citation.cite.SpecialForm.{SpecialForm}
 use Rattle.csl_entry.specs.declared.citation.cite.SpecialForm.TheVariants as forms
 use Rattle.csl_wire.specs.Reading.{lent, pair_by, member, read_choice, read_flag, read_member, read_number}
-use Rattle.csl_wire.specs.Leaves.{IsNamed}
+use Rattle.csl_wire.specs.Leaves.{IsNamed, IsNamedIf}
 use Rattle.csl_wire.specs.Named.{locator_has, variable_has}
 use Rattle.csl_wire_cite.specs.Disambiguations.{IsDisambiguation}
 use Rattle.csl_wire_cite.specs.declared.cites.TheConstants as tables
@@ -50,13 +51,18 @@ pub record IsCite (d : Data) (c : CiteState) : Type 0 where
   pub number : read_citation_number d ≡ Some (c.citation_number + 1)
   pub disambiguation_ : IsDisambiguation d c.disambiguation
 
-abbrev read_form : Data → Option (Option SpecialForm)
+abbrev pub read_form : Data → Option (Option SpecialForm)
 read_form d = read_member (read_choice (map (pair_by lent) tables.FORMS)) (codes "form") d
 
--- the part of a cite that is wanted: of at most one of `form` and `only`
-abbrev pub IsPart : Data → Option SpecialForm → Type 0
-IsPart d None = (read_form d ≡ Some None) × (member (codes "only") d ≡ None)
-IsPart d (Some (forms.VarOnly v)) = (read_form d ≡ Some None) × IsNamed variable_has (codes "only") d v
-IsPart d (Some forms.OnlyFirstDate) = (read_form d ≡ Some (Some forms.OnlyFirstDate)) × (member (codes "only") d ≡ None)
-IsPart d (Some forms.OnlyYearSuffix) = (read_form d ≡ Some (Some forms.OnlyYearSuffix)) × (member (codes "only") d ≡ None)
-IsPart d (Some forms.SuppressAuthor) = (read_form d ≡ Some (Some forms.SuppressAuthor)) × (member (codes "only") d ≡ None)
+-- the part of a cite that is wanted: of at most one of `only` and `form`
+abbrev pub one_of : Option Variable → Option SpecialForm → Option (Option SpecialForm)
+one_of None form = Some form
+one_of (Some v) None = Some (Some (forms.VarOnly v))
+one_of (Some v) (Some form) = None
+
+pub record IsPart (d : Data) (part : Option SpecialForm) : Type 0 where
+  pub only : Option Variable
+  pub is_only : IsNamedIf variable_has (codes "only") d only
+  pub form : Option SpecialForm
+  pub is_form : read_form d ≡ Some form
+  pub is : one_of only form ≡ Some part

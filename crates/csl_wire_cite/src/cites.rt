@@ -1,7 +1,7 @@
 //! Cites: what the citation says of a cite (CSL 1.0.2, Choose: position; Locators; Number Variables;
 //! Disambiguation), and the part of it that is wanted.
 
-ghost use Rattle.std.specs.Prelude.{◌≡◌, ◌+◌, Some, IfOk, codes, option_map};
+ghost use Rattle.std.specs.Prelude.{◌≡◌, ◌+◌, Some, IfOk, IfSome, codes, option_map};
 ghost use Rattle.serde_json.specs.View.{view};
 ghost use Rattle.csl_entry.specs.Cite.{cite_state, locator_view};
 ghost use Rattle.csl_entry.specs.Numbers as spec;
@@ -80,13 +80,21 @@ fn locator_of<'v>(numbers: Reader, form: Form<'v>) -> Result<Option<SpecificLoca
     }
 }
 
+/// The citation number that prints as this number.
+fn printed_as(number: u32) -> Option<CitationNumber>
+    ensures { IfSome result (λ n. spec.citation_number n + 1 ≡ number) }
+{
+    let number = number.checked_sub(1)?;
+    CitationNumber::new(number)
+}
+
 /// The citation number, which counts from 1. One that is absent is 1.
 fn citation_number(form: Form<'_>) -> Result<CitationNumber, WireError>
     ensures { IfOk result (λ n. read_citation_number (view form.entry.value.now)
         ≡ Some (spec.citation_number n + 1)) }
 {
     let number = form.number("citation-number")?.unwrap_or(1);
-    match number.checked_sub(1).and_then(CitationNumber::new) {
+    match printed_as(number) {
         Some(number) => Ok(number),
         None => Err(WireError::of(
             form.reader.alloc,
@@ -117,6 +125,7 @@ fn first_note_number(form: Form<'_>) -> Result<Option<NoteNumber>, WireError>
 }
 
 /// The part of the cite that is wanted, if not the whole.
+#[tactic(auto, using(crate::proofs::Cites::part_read))]
 fn special_form(form: Form<'_>) -> Result<Option<SpecialForm>, WireError>
     ensures { IfOk result (IsPart (view form.entry.value.now)) }
 {
