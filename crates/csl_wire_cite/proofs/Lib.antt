@@ -1,5 +1,6 @@
-pub mod Lists
-pub mod Words
-pub mod Cites
-pub mod Entries
 pub mod Adds
+pub mod CitesRead
+pub mod EntriesRead
+pub mod Lists
+pub mod NoPages
+pub mod Words

@@ -1,7 +1,7 @@
 -- Which cites JSON objects are read as (CSL 1.0.2, Choose: position; Locators; Number Variables;
 -- Disambiguation). Citation numbers count from 1 in JSON, and from 0 in a cite. A locator without
 -- `value` is one that the caller writes.
-use Rattle.std.specs.Prelude.{◌≡◌, ◌+◌, ℕ, List, Bool, true, Option, Some, None, map, option_map, unwrap_or, codes}
+use Rattle.std.specs.Prelude.{◌≡◌, ◌+◌, ⊤, ℕ, List, Bool, true, Option, Some, None, map, option_map, unwrap_or, codes}
 use Rattle.serde_json.specs.Data.{Data}
 use Rattle.serde_json.specs.Find.{as_str}
 use Rattle.csl_elements.specs.declared.taxonomy.Variable.{Variable}

@@ -3,7 +3,7 @@
 
 ghost use Rattle.std.specs.Prelude.{◌≡◌, IfOk};
 ghost use Rattle.serde_json.specs.View.{members_view, view};
-ghost use Rattle.csl_wire_cite.specs.Variables.{kept_answers, nothing_kept, AddsAnswer, AddsMember, AddsMembers, AddsText};
+ghost use Rattle.csl_wire_cite.specs.Variables.{kept_answers, nothing_kept, AddsAnswer, AddsDate, AddsMember, AddsMembers, AddsNumber, AddsPages, AddsPersons, AddsText};
 
 use crate::dates::date;
 use crate::limits::WorkLimits;
@@ -45,6 +45,7 @@ impl Answers {
     }
 
     /// Adds the answer to a standard variable, in both forms.
+    #[tactic(auto, using(crate::proofs::Adds::text_added))]
     fn add_text(
         &mut self,
         reader: Reader,
@@ -54,9 +55,74 @@ impl Answers {
         ensures { IfOk result (λ _. AddsText variable (view value.now) (kept_answers self.old)
             (kept_answers self.new)) }
     {
-        self.long_texts.push((variable, long_form(reader, value)?))?;
-        self.short_texts
-            .push((variable, short_form(reader, value)?))?;
+        let long = long_form(reader, value)?;
+        let short = short_form(reader, value)?;
+        self.long_texts.push((variable, long))?;
+        self.short_texts.push((variable, short))?;
+        Ok(())
+    }
+
+    /// Adds the answer to a number variable.
+    #[tactic(auto, using(crate::proofs::Adds::number_added))]
+    fn add_number(
+        &mut self,
+        reader: Reader,
+        variable: NumberVariable,
+        value: &Value,
+    ) -> Result<(), WireError>
+        ensures { IfOk result (λ _. AddsNumber variable (view value.now) (kept_answers self.old)
+            (kept_answers self.new)) }
+    {
+        let number = number(reader, value)?;
+        self.numbers.push((variable, number))?;
+        Ok(())
+    }
+
+    /// Adds the answer to a page variable.
+    #[tactic(auto, using(crate::proofs::Adds::pages_added))]
+    fn add_pages(
+        &mut self,
+        reader: Reader,
+        variable: PageVariable,
+        value: &Value,
+    ) -> Result<(), WireError>
+        ensures { IfOk result (λ _. AddsPages variable (view value.now) (kept_answers self.old)
+            (kept_answers self.new)) }
+    {
+        let pages = pages(reader, value)?;
+        self.pages.push((variable, pages))?;
+        Ok(())
+    }
+
+    /// Adds the answer to a name variable.
+    #[tactic(auto, using(crate::proofs::Adds::persons_added))]
+    fn add_persons(
+        &mut self,
+        reader: Reader,
+        variable: NameVariable,
+        value: &Value,
+    ) -> Result<(), WireError>
+        ensures { IfOk result (λ _. AddsPersons variable (view value.now) (kept_answers self.old)
+            (kept_answers self.new)) }
+    {
+        let persons = persons(reader, value)?;
+        self.names.push((variable, persons))?;
+        Ok(())
+    }
+
+    /// Adds the answer to a date variable.
+    #[tactic(auto, using(crate::proofs::Adds::date_added))]
+    fn add_date(
+        &mut self,
+        reader: Reader,
+        variable: DateVariable,
+        value: &Value,
+    ) -> Result<(), WireError>
+        ensures { IfOk result (λ _. AddsDate variable (view value.now) (kept_answers self.old)
+            (kept_answers self.new)) }
+    {
+        let date = date(reader, value)?;
+        self.dates.push((variable, date))?;
         Ok(())
     }
 
@@ -71,16 +137,29 @@ impl Answers {
         ensures { IfOk result (λ _. AddsAnswer variable (view value.now) (kept_answers self.old)
             (kept_answers self.new)) }
     {
-        let texts = limits.texts(alloc);
-        let numbers = limits.numbers(alloc);
+        let (texts, numbers) = (limits.texts(alloc), limits.numbers(alloc));
         match variable {
-            Variable::Standard(variable) => self.add_text(texts, variable, value)?,
-            Variable::Number(variable) => self.numbers.push((variable, number(numbers, value)?))?,
-            Variable::Page(variable) => self.pages.push((variable, pages(numbers, value)?))?,
-            Variable::Name(variable) => self.names.push((variable, persons(texts, value)?))?,
-            Variable::Date(variable) => self.dates.push((variable, date(texts, value)?))?,
+            Variable::Standard(variable) => {
+                self.add_text(texts, variable, value)?;
+                Ok(())
+            }
+            Variable::Number(variable) => {
+                self.add_number(numbers, variable, value)?;
+                Ok(())
+            }
+            Variable::Page(variable) => {
+                self.add_pages(numbers, variable, value)?;
+                Ok(())
+            }
+            Variable::Name(variable) => {
+                self.add_persons(texts, variable, value)?;
+                Ok(())
+            }
+            Variable::Date(variable) => {
+                self.add_date(texts, variable, value)?;
+                Ok(())
+            }
         }
-        Ok(())
     }
 
     /// Adds the answer of a member. One that is `null` is absent.

@@ -125,7 +125,7 @@ fn first_note_number(form: Form<'_>) -> Result<Option<NoteNumber>, WireError>
 }
 
 /// The part of the cite that is wanted, if not the whole.
-#[tactic(auto, using(crate::proofs::Cites::part_read))]
+#[tactic(auto, using(crate::proofs::CitesRead::part_read))]
 fn special_form(form: Form<'_>) -> Result<Option<SpecialForm>, WireError>
     ensures { IfOk result (IsPart (view form.entry.value.now)) }
 {

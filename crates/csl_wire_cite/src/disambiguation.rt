@@ -35,7 +35,7 @@ fn name_form(reader: Reader, value: &Value) -> Result<Option<DisambiguatedNameFo
 }
 
 /// The form of each name of a list.
-#[tactic(auto, using(crate::proofs::Lists::each_read))]
+#[tactic(auto, using(crate::proofs::Lists::each_taken))]
 fn name_forms(
     reader: Reader,
     items: &[Value],
@@ -62,7 +62,7 @@ fn list_of_forms(
 }
 
 /// The forms of the names of lists.
-#[tactic(auto, using(crate::proofs::Lists::each_read))]
+#[tactic(auto, using(crate::proofs::Lists::each_taken))]
 fn lists_of_forms(
     reader: Reader,
     items: &[Value],

@@ -20,7 +20,7 @@ use serde_json::Value;
 use std::alloc::Global;
 
 /// The answers of the variables of a work.
-#[tactic(auto, using(crate::proofs::Entries::answers_read))]
+#[tactic(auto, using(crate::proofs::EntriesRead::answers_read))]
 fn answers_of(alloc: Global, limits: WorkLimits, value: &Value) -> Result<Answers, WireError>
     ensures { IfOk result (λ a. AreAnswersOf (view value.now) (kept_answers a)) }
 {
@@ -74,7 +74,7 @@ static ENTRY: [&str; 4] = ["type", "english", "key", "variables"];
 ///
 /// # Errors
 /// [`WireError::Refused`]: the value is no entry within the limits.
-#[tactic(auto, using(crate::proofs::Entries::entry_read))]
+#[tactic(auto, using(crate::proofs::EntriesRead::entry_read))]
 pub fn entry_of(alloc: Global, value: &Value, limits: WorkLimits) -> Result<WireEntry, WireError>
     ensures answers { IfOk result (λ e. IsEntry (view value.now) (kept_of e.answers)) }
     ensures english { IfOk result (λ e. read_member as_bool (codes "english") (view value.now)

@@ -34,7 +34,7 @@ fn person(reader: Reader, value: &Value) -> Result<Person, WireError>
 }
 
 /// The persons of a list, in order.
-#[tactic(auto, using(crate::proofs::Lists::each_read))]
+#[tactic(auto, using(crate::proofs::Lists::each_taken))]
 fn persons_of(reader: Reader, items: &[Value]) -> Result<Vec<Person>, WireError>
     ensures { IfOk result (λ ps. read_each read_person (map view items.now)
         ≡ Some (map person_view ps.items)) }

@@ -50,7 +50,7 @@ fn piece(reader: Reader, value: &Value) -> Result<StringChunk, WireError>
 }
 
 /// The pieces of a list.
-#[tactic(auto, using(crate::proofs::Lists::each_read))]
+#[tactic(auto, using(crate::proofs::Lists::each_taken))]
 fn pieces(reader: Reader, items: &[Value]) -> Result<Vec<StringChunk>, WireError>
     ensures { IfOk result (λ cs. read_each read_piece (map view items.now)
         ≡ Some (map chunk_of cs.items)) }

@@ -1,12 +1,21 @@
 //! Year suffixes (CSL 1.0.2, Disambiguation: disambiguate-add-year-suffix).
 
-ghost use Rattle.std.specs.Prelude.{◌≡◌, Some, None, IfOk, IfSome, codes};
+ghost use Rattle.std.specs.Prelude.{◌≡◌, ◌≤◌, ◌+◌, IfOk, IfSome};
 ghost use Rattle.serde_json.specs.View.{view};
-ghost use Rattle.csl_wire.specs.Reading.{member};
 ghost use Rattle.csl_wire_cite.specs.Disambiguations.{IsSuffixIf};
 ghost use Rattle.csl_wire_cite.specs.YearSuffixes.{IsSuffix};
 
 use csl_wire::{Code, Form, Step, WireError};
+
+/// The value of a letter from a to z, from 1.
+fn letter_value(letter: u8) -> Option<u32>
+    ensures { IfSome result (λ v. (97 ≤ letter) × (letter ≤ 122) × (v + 96 ≡ letter)) }
+{
+    if letter < b'a' || letter > b'z' {
+        return None;
+    }
+    Some(u32::from(letter - b'a') + 1)
+}
 
 /// The number of a year suffix, from 0: `a` is 0, `z` 25, `aa` 26.
 #[tactic(auto, using(crate::proofs::Words::letters_read, crate::proofs::Words::value_read, crate::proofs::Words::suffix_read))]
@@ -15,15 +24,13 @@ fn suffix_number(word: &str) -> Option<u16>
 {
     let mut count: u32 = 0;
     for letter in word.as_bytes() {
-        if !letter.is_ascii_lowercase() {
-            return None;
-        }
-        count = count * 26 + u32::from(*letter - b'a') + 1;
+        count = count * 26 + letter_value(*letter)?;
         if count > 65_536 {
             return None;
         }
     }
-    u16::try_from(count.checked_sub(1)?).ok()
+    let number = count.checked_sub(1)?;
+    u16::try_from(number).ok()
 }
 
 /// The number of the year suffix among the members.

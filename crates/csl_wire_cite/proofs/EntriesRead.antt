@@ -1,5 +1,5 @@
 -- Entries that were read, by the facts of their members.
-use Rattle.std.proofs.Common.{◌≡◌, ap, ◌∙◌, Option, Some, List, [], ◌∷◌, ◌++◌, map, map-append, codes}
+use Rattle.std.proofs.Common.{◌≡◌, List, Option, Some, codes}
 use Rattle.serde_json.specs.Data.{Data, Members, no_members, member as a_member}
 use Rattle.serde_json.specs.Find.{as_object}
 use Rattle.csl_elements.specs.declared.taxonomy.Kind.{Kind}
