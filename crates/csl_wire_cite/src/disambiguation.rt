@@ -1,4 +1,5 @@
 //! What disambiguates a cite (CSL 1.0.2, Disambiguation).
+//! Definitions: specs/Disambiguations.antt.
 
 ghost use Rattle.std.specs.Prelude.{◌≡◌, Some, IfOk, map};
 ghost use Rattle.serde_json.specs.View.{view};

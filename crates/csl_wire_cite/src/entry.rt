@@ -1,4 +1,5 @@
 //! An entry as its answers.
+//! Definitions: crates/csl_entry/specs/Snapshot.antt.
 
 ghost use Rattle.std.specs.Prelude.{string_bytes};
 ghost use Rattle.csl_entry.specs.Snapshot.{snapshot_answers};

@@ -1,4 +1,5 @@
 //! Year suffixes (CSL 1.0.2, Disambiguation: disambiguate-add-year-suffix).
+//! Definitions: specs/Disambiguations.antt, specs/YearSuffixes.antt.
 
 ghost use Rattle.std.specs.Prelude.{◌≡◌, ◌≤◌, ◌+◌, IfOk, IfSome};
 ghost use Rattle.serde_json.specs.View.{view};
