@@ -19,9 +19,11 @@ use serde_json::{Map, Value};
 
 /// An object, as the attributes and children of an element.
 #[derive(Clone, Copy)]
-pub(crate) struct Form<'v> {
-    pub(crate) reader: Reader,
-    pub(crate) value: &'v Value,
+pub struct Form<'v> {
+    /// What reads the values inside.
+    pub reader: Reader,
+    /// The object.
+    pub value: &'v Value,
 }
 
 /// Whether a name is in one of the lists.
@@ -76,7 +78,11 @@ fn unknown_choice<T: Copy>(reader: Reader, pairs: &[(&str, T)], word: &str) -> W
 }
 
 /// The value that a word chooses.
-fn chosen<T: Copy + Drop>(reader: Reader, names: &[(&str, T)], word: &str) -> Result<T, WireError>
+pub fn chosen<T: Copy + Drop>(
+    reader: Reader,
+    names: &[(&str, T)],
+    word: &str,
+) -> Result<T, WireError>
     ensures { IfOk result (λ v. value_named (map (pair_by borrowed) names.now) word.now ≡ Some v) }
 {
     match paired(names, word) {
@@ -96,7 +102,7 @@ fn named<T: Named>(reader: Reader, word: &str) -> Result<T, WireError>
 }
 
 /// The word that a value is.
-fn word_of(reader: Reader, value: &Value) -> Result<&str, WireError>
+pub fn word_of(reader: Reader, value: &Value) -> Result<&str, WireError>
     ensures { IfOk result (λ t. as_str (view value.now) ≡ Some t.now) }
 {
     match value.as_str() {
@@ -106,7 +112,7 @@ fn word_of(reader: Reader, value: &Value) -> Result<&str, WireError>
 }
 
 /// The text that a value is, within the limits.
-fn text_of(reader: Reader, value: &Value) -> Result<String, WireError>
+pub fn text_of(reader: Reader, value: &Value) -> Result<String, WireError>
     ensures read { IfOk result (λ t. as_str (view value.now) ≡ Some (string_bytes t)) }
     ensures short { IfOk result (λ t. length (string_bytes t) ≤ reader.limits.text) }
 {
@@ -153,7 +159,7 @@ fn boolean_of(reader: Reader, value: &Value) -> Result<bool, WireError>
 }
 
 /// The members of the object that a value is.
-fn members_of(reader: Reader, value: &Value) -> Result<&Map<String, Value>, WireError>
+pub fn members_of(reader: Reader, value: &Value) -> Result<&Map<String, Value>, WireError>
     ensures { IfOk result (λ m. as_object (view value.now) ≡ Some (members_view m.now.entries)) }
 {
     match value.as_object() {
@@ -164,7 +170,7 @@ fn members_of(reader: Reader, value: &Value) -> Result<&Map<String, Value>, Wire
 
 /// The items of the list that a value is.
 #[tactic(auto, using(crate::proofs::Lists::list_of_view))]
-pub(crate) fn items_of(reader: Reader, value: &Value) -> Result<&[Value], WireError>
+pub fn items_of(reader: Reader, value: &Value) -> Result<&[Value], WireError>
     ensures { IfOk result (λ items. read_items (view value.now) ≡ Some (map view items.now)) }
 {
     match value.as_array() {
@@ -235,11 +241,7 @@ impl<'v> Form<'v> {
 
     /// The object that a value is. Each of its members that is not `null` has a name in one of the
     /// lists.
-    pub(crate) fn of(
-        reader: Reader,
-        value: &'v Value,
-        known: &[&[&str]],
-    ) -> Result<Form<'v>, WireError>
+    pub fn of(reader: Reader, value: &'v Value, known: &[&[&str]]) -> Result<Form<'v>, WireError>
         ensures { IfOk result (λ form. form.value.now ≡ value.now) }
     {
         let members = members_of(reader, value)?;
@@ -258,7 +260,7 @@ impl<'v> Form<'v> {
     }
 
     /// The value of a member. One that is `null` is absent.
-    pub(crate) fn member(self, name: &str) -> Option<&'v Value>
+    pub fn member(self, name: &str) -> Option<&'v Value>
         ensures { option_map (λ v. view v.now) result
             ≡ spec.member name.now (view self.entry.value.now) }
     {
@@ -269,7 +271,7 @@ impl<'v> Form<'v> {
     }
 
     /// The refusal of the object for a member that is not there.
-    pub(crate) fn missing(self, name: &str) -> WireError {
+    pub fn missing(self, name: &str) -> WireError {
         WireError::of_word(
             self.reader.alloc,
             Code::MissingMember,
@@ -280,7 +282,7 @@ impl<'v> Form<'v> {
     }
 
     /// The word of a member, borrowed.
-    pub(crate) fn word(self, name: &'static str) -> Result<Option<&'v str>, WireError>
+    pub fn word(self, name: &'static str) -> Result<Option<&'v str>, WireError>
         ensures { IfOk result (λ o. read_member as_str name.now (view self.entry.value.now)
             ≡ Some (option_map (λ t. t.now) o)) }
     {
@@ -291,7 +293,7 @@ impl<'v> Form<'v> {
     }
 
     /// The text of a member.
-    pub(crate) fn text(self, name: &'static str) -> Result<Option<String>, WireError>
+    pub fn text(self, name: &'static str) -> Result<Option<String>, WireError>
         ensures read { IfOk result (λ o. read_member as_str name.now (view self.entry.value.now)
             ≡ Some (text_if o)) }
         ensures short { IfOk result (λ o. IfSome o
@@ -305,7 +307,7 @@ impl<'v> Form<'v> {
 
     /// The text of a member that has to be there.
     #[tactic(auto, using(crate::proofs::Members::members))]
-    pub(crate) fn one_text(self, name: &'static str) -> Result<String, WireError>
+    pub fn one_text(self, name: &'static str) -> Result<String, WireError>
         ensures { IfOk result (λ t. read_one as_str name.now (view self.entry.value.now)
             ≡ Some (string_bytes t)) }
     {
@@ -316,7 +318,7 @@ impl<'v> Form<'v> {
     }
 
     /// The number of a member.
-    pub(crate) fn number(self, name: &'static str) -> Result<Option<u32>, WireError>
+    pub fn number(self, name: &'static str) -> Result<Option<u32>, WireError>
         ensures { IfOk result (λ o. read_member read_number name.now (view self.entry.value.now)
             ≡ Some o) }
     {
@@ -327,7 +329,7 @@ impl<'v> Form<'v> {
     }
 
     /// The boolean of a member.
-    pub(crate) fn boolean(self, name: &'static str) -> Result<Option<bool>, WireError>
+    pub fn boolean(self, name: &'static str) -> Result<Option<bool>, WireError>
         ensures { IfOk result (λ o. read_member as_bool name.now (view self.entry.value.now)
             ≡ Some o) }
     {
@@ -338,7 +340,7 @@ impl<'v> Form<'v> {
     }
 
     /// Whether a member is `true`.
-    pub(crate) fn is_true(self, name: &'static str) -> Result<bool, WireError>
+    pub fn is_true(self, name: &'static str) -> Result<bool, WireError>
         ensures { IfOk result (λ b. spec.read_flag name.now (view self.entry.value.now) ≡ Some b) }
     {
         Ok(self.boolean(name)?.unwrap_or(false))
@@ -346,7 +348,7 @@ impl<'v> Form<'v> {
 
     /// The value that a member names.
     #[tactic(auto, using(crate::proofs::Members::members))]
-    pub(crate) fn named<T: Named>(self, name: &'static str) -> Result<Option<T>, WireError>
+    pub fn named<T: Named>(self, name: &'static str) -> Result<Option<T>, WireError>
         ensures { IfOk result (IsNamedIf T.is_named name.now (view self.entry.value.now)) }
     {
         match self.word(name)? {
@@ -357,7 +359,7 @@ impl<'v> Form<'v> {
 
     /// The value that a member, which has to be there, names.
     #[tactic(auto, using(crate::proofs::Members::members))]
-    pub(crate) fn one_named<T: Named>(self, name: &'static str) -> Result<T, WireError>
+    pub fn one_named<T: Named>(self, name: &'static str) -> Result<T, WireError>
         ensures { IfOk result (IsNamed T.is_named name.now (view self.entry.value.now)) }
     {
         match self.named::<T>(name)? {
@@ -367,7 +369,7 @@ impl<'v> Form<'v> {
     }
 
     /// The value that a member chooses.
-    pub(crate) fn choice<T: Copy + Drop>(
+    pub fn choice<T: Copy + Drop>(
         self,
         name: &'static str,
         names: &[(&str, T)],
@@ -383,7 +385,7 @@ impl<'v> Form<'v> {
 
     /// The value that a member, which has to be there, chooses.
     #[tactic(auto, using(crate::proofs::Members::members))]
-    pub(crate) fn one_choice<T: Copy + Drop>(
+    pub fn one_choice<T: Copy + Drop>(
         self,
         name: &'static str,
         names: &[(&str, T)],
@@ -398,7 +400,7 @@ impl<'v> Form<'v> {
     }
 
     /// The items of a member that is a list. There are none if there is no such member.
-    pub(crate) fn items(self, name: &'static str) -> Result<&'v [Value], WireError>
+    pub fn items(self, name: &'static str) -> Result<&'v [Value], WireError>
         ensures { IfOk result (λ items. read_list name.now (view self.entry.value.now)
             ≡ Some (map view items.now)) }
     {
@@ -409,7 +411,7 @@ impl<'v> Form<'v> {
     }
 
     /// The values that a member names, as a list of names.
-    pub(crate) fn all_named<T: Named>(self, name: &'static str) -> Result<Option<Vec<T>>, WireError>
+    pub fn all_named<T: Named>(self, name: &'static str) -> Result<Option<Vec<T>>, WireError>
         ensures { IfOk result (λ o. AreNamedIf T.is_named name.now (view self.entry.value.now)
             (option_map (λ v. v.items) o)) }
     {

@@ -30,7 +30,9 @@ impl Limits {
 
 /// What readers of values share.
 #[derive(Clone, Copy)]
-pub(crate) struct Reader {
-    pub(crate) alloc: Global,
-    pub(crate) limits: Limits,
+pub struct Reader {
+    /// Where what is read is allocated.
+    pub alloc: Global,
+    /// How much is read.
+    pub limits: Limits,
 }

@@ -17,7 +17,7 @@ use csl_languages::Language;
 use std::alloc::Global;
 
 /// A value that a name stands for.
-pub(crate) trait Named: Copy + Drop {
+pub trait Named: Copy + Drop {
     ghost use Rattle.std.specs.Prelude.{ℕ, List, IfSome};
 
     /// Whether a name is the value's.

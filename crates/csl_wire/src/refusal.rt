@@ -192,7 +192,7 @@ impl WireError {
     }
 
     /// The refusal of a value.
-    pub(crate) fn of(alloc: Global, code: Code, reason: &'static str) -> WireError {
+    pub fn of(alloc: Global, code: Code, reason: &'static str) -> WireError {
         WireError::with(alloc, code, reason, Detail::Plain)
     }
 

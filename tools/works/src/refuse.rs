@@ -6,6 +6,7 @@ mod failed;
 mod made;
 mod styles;
 mod trees;
+mod wire;
 
 use crate::documents;
 use crate::error::WorkError;
@@ -45,6 +46,8 @@ pub fn result(alloc: Global, name: &str) -> Result<String, WorkError> {
         "copy-cite" => copies::cite(alloc),
         "copy-left" => copies::left(alloc),
         "copy-tree" => copies::tree(alloc),
+        "wire-entry" => wire::entry(alloc),
+        "wire-cite" => wire::cite(alloc),
         _ => Err(WorkError::Unexpected("no such work")),
     }
 }

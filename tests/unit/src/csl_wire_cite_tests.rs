@@ -1,0 +1,11 @@
+//! Tests of works and cites from JSON. Expected values are those of docs/WIRE.md, written out by
+//! hand.
+
+mod cites;
+mod dates;
+mod entries;
+mod limits;
+mod reading;
+mod refusals;
+mod rendered;
+mod variables;
