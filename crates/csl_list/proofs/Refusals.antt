@@ -1,5 +1,5 @@
 -- A style with its options that is refused, by the keys of the citation or of the bibliography.
-use Rattle.std.proofs.Common.{◌≡◌, List, inl, inr, subst}
+use Rattle.std.proofs.Common.{List, inl, inr}
 use Rattle.std.specs.List.{All}
 use Rattle.csl_elements.specs.View.{Definition}
 use Rattle.csl_style.specs.declared.style.settings.Scope.TheVariants as scopes
@@ -11,5 +11,5 @@ module _ (macros : List Definition) (citation bibliography : List SortKey) (erro
   pub by_citation : IsRefusalOf macros scopes.Citation citation error → IsRefusal macros citation bibliography error
   by_citation refused = inl refused
 
-  pub by_bibliography : (keys : List SortKey) → keys ≡ bibliography → All (IsKnown macros) citation → IsRefusalOf macros scopes.Bibliography keys error → IsRefusal macros citation bibliography error
-  by_bibliography keys e known refused = inr (known, subst (λ (ks : List SortKey). IsRefusalOf macros scopes.Bibliography ks error) e refused)
+  pub by_bibliography : All (IsKnown macros) citation → IsRefusalOf macros scopes.Bibliography bibliography error → IsRefusal macros citation bibliography error
+  by_bibliography known refused = inr (known, refused)

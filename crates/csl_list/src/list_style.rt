@@ -112,6 +112,26 @@ fn checked_keys(
     Ok(layouts)
 }
 
+/// The keys of the citation and those of the bibliography as layouts, if the style has the macros
+/// that they are by.
+#[tactic(auto, using(crate::proofs::Refusals::by_citation, crate::proofs::Refusals::by_bibliography))]
+fn all_checked_keys(
+    alloc: Global,
+    style: &Style,
+    citation: &[SortKey],
+    bibliography: &[SortKey],
+) -> Result<(Vec<KeyLayout>, Vec<KeyLayout>), ListStyleError>
+    ensures citation { OnOk result (All (spec.IsKnown (definitions style.now.macros)) citation.now) }
+    ensures bibliography { OnOk result (All (spec.IsKnown (definitions style.now.macros))
+        bibliography.now) }
+    ensures refused { IfErr result (spec.IsRefusal (definitions style.now.macros) citation.now
+        bibliography.now) }
+{
+    let citation = checked_keys(alloc, style, Scope::Citation, citation)?;
+    let bibliography = checked_keys(alloc, style, Scope::Bibliography, bibliography)?;
+    Ok((citation, bibliography))
+}
+
 /// The keys of a bibliography, if there is one.
 fn keys_of(bibliography: &Option<BibliographyOptions>) -> &[SortKey]
     ensures { result.now ≡ spec.keys_of bibliography.now }
@@ -149,7 +169,6 @@ impl ListStyle {
     /// # Errors
     /// [`ListStyleError::Memory`]: out of memory.
     /// [`ListStyleError::NoSuchMacro`]: a key is by a macro that the style lacks.
-    #[tactic(auto, using(crate::proofs::Refusals::by_citation, crate::proofs::Refusals::by_bibliography))]
     pub fn new(
         alloc: Global,
         style: Style,
@@ -166,9 +185,9 @@ impl ListStyle {
         ensures refused { IfErr result (spec.IsRefusal (definitions style.macros)
             citation.keys.items (spec.keys_of bibliography)) }
     {
-        let citation_keys = checked_keys(alloc, &style, Scope::Citation, &citation.keys)?;
         let keys = keys_of(&bibliography);
-        let bibliography_keys = checked_keys(alloc, &style, Scope::Bibliography, keys)?;
+        let (citation_keys, bibliography_keys) =
+            all_checked_keys(alloc, &style, &citation.keys, keys)?;
         Ok(ListStyle {
             style,
             citation,
