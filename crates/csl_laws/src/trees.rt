@@ -1,4 +1,5 @@
 //! Equality and hash of trees and their parts, and equality of stacks.
+//! Definitions: crates/csl_tree/specs/Tokens.antt.
 
 ghost use Rattle.std.specs.Prelude.{◌≡◌, ◌↔◌, IsTrue};
 ghost use Rattle.csl_tree.specs.Tokens.{tokens, elem_tokens, child_tokens, meta_of, text_tokens};

@@ -1,4 +1,5 @@
 //! Equality and hash of the parts of a work, and of whole works.
+//! Definitions: crates/lit_model/specs/Work.antt, and those that it cites.
 
 ghost use Rattle.std.specs.Prelude.{◌≡◌, ◌↔◌, IsTrue, option_copied, option_map};
 ghost use Rattle.lit_model.specs.Date.{date_view};
