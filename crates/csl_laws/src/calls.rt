@@ -1,6 +1,6 @@
 //! Callers of functions with a condition that no library meets: a form that is replaced, the items of
 //! a stack, and parts for affixes and quotes.
-//! Definitions: crates/csl_entry/specs/NameProperties.antt, crates/csl_tree/specs/Stack.antt.
+//! Definitions: crates/csl_entry/specs/NameProperties.antt.
 
 ghost use Rattle.std.specs.Prelude.{◌≡◌, IfOk, IfSome, OnOk, drop};
 ghost use Rattle.std.specs.Int.NonZero.{non_zero_usize_get};

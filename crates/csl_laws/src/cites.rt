@@ -1,6 +1,6 @@
 //! Equality, hash and order of what a cite is made of, and of its rendering.
-//! Definitions: crates/csl_entry/specs/{NameForm,NameProperties,NumberResult}.antt,
-//! crates/csl_context/specs/State.antt.
+//! Definitions: crates/csl_entry/specs/NameForm.antt, crates/csl_entry/specs/NameProperties.antt,
+//! crates/csl_entry/specs/NumberResult.antt, crates/csl_context/specs/State.antt.
 
 ghost use Rattle.std.specs.Prelude.{◌≡◌, ◌↔◌, IsTrue, ◌<◌};
 ghost use Rattle.csl_entry.specs.NameForm.{form_place, form_cmp};

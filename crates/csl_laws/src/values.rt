@@ -1,5 +1,7 @@
 //! Equality and hash of the parts of a work, and of whole works.
-//! Definitions: crates/lit_model/specs/Work.antt, and those that it cites.
+//! Definitions: crates/lit_model/specs/Person.antt, crates/lit_model/specs/Text.antt,
+//! crates/lit_model/specs/Numeric.antt, crates/lit_model/specs/Page.antt,
+//! crates/lit_model/specs/Source.antt, crates/lit_model/specs/Work.antt.
 
 ghost use Rattle.std.specs.Prelude.{◌≡◌, ◌↔◌, IsTrue, option_copied, option_map};
 ghost use Rattle.lit_model.specs.Date.{date_view};
