@@ -87,7 +87,7 @@ impl Identity {
         forms: Option<&NameDisambiguationProperties>,
     ) -> Result<DisambiguateState, Memory>
         ensures { IfOk result (λ state. disambiguation_of state
-            ≡ spec.told_by self (option_copied forms)) }
+            ≡ spec.told_by self (option_copied forms.entry)) }
     {
         if self.year_suffix.is_some() || self.chooses {
             return Ok(disambiguation_of(self));

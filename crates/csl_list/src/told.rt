@@ -481,13 +481,25 @@ fn rendered_anew<T: EntryLike>(
 ) -> Result<ToldCite, ListError>
     ensures err { IfErr result IsListingError }
 {
-    match cite {
-        ToldCite {
-            forms: Some(forms),
-            is_named: true,
-            ..
-        } => named_cite(alloc, renderer, work, place, forms),
-        cite => Ok(cite),
+    if !cite.is_named {
+        return Ok(cite);
+    }
+    let ToldCite {
+        text,
+        names,
+        forms,
+        is_named,
+        added,
+    } = cite;
+    match forms {
+        Some(forms) => named_cite(alloc, renderer, work, place, forms),
+        None => Ok(ToldCite {
+            text,
+            names,
+            forms: None,
+            is_named,
+            added,
+        }),
     }
 }
 
