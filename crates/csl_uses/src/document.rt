@@ -31,9 +31,9 @@ pub fn told_apart(alloc: Global, style: Style, key: &str) -> Result<ListStyle, L
     ListStyle::new(alloc, style, citation, Some(bibliography))
 }
 
-/// A document as HTML, with links to web addresses alone.
+/// The texts of a document as HTML, with links to web addresses alone.
 #[derive(Drop)]
-pub struct Document {
+pub struct Texts {
     /// A citation of each work.
     pub citations: Vec<String>,
     /// The bibliography, a text for each work in its order.
@@ -46,15 +46,15 @@ fn html(alloc: Global, content: ElemChildren) -> Result<String, ListError> {
     Ok(content.to_text(alloc, BufWriteFormat::Html)?)
 }
 
-/// A document that cites each of these works once, in their order.
+/// The texts of a document that cites each of these works once, in their order.
 ///
 /// # Errors
 /// [`ListError::TooManyWorks`]: there are more works than numbers or year suffixes.
-pub fn document<T: EntryLike>(
+pub fn texts_of<T: EntryLike>(
     alloc: Global,
     style: &ListStyle,
     works: &[T],
-) -> Result<Document, ListError> {
+) -> Result<Texts, ListError> {
     let mut driver = BibliographyDriver::new(alloc);
     for work in 0..works.len() {
         let mut request = CitationRequest::new(alloc);
@@ -62,17 +62,17 @@ pub fn document<T: EntryLike>(
         driver.citation(request)?;
     }
     let list = driver.finish(alloc, style, works, ListedWorks::All)?;
-    let mut document = Document {
+    let mut texts = Texts {
         citations: Vec::new(alloc),
         bibliography: Vec::new(alloc),
     };
     for citation in list.citations {
-        document.citations.push(html(alloc, citation.content)?)?;
+        texts.citations.push(html(alloc, citation.content)?)?;
     }
     if let Some(bibliography) = list.bibliography {
         for item in bibliography.items {
-            document.bibliography.push(html(alloc, item.content)?)?;
+            texts.bibliography.push(html(alloc, item.content)?)?;
         }
     }
-    Ok(document)
+    Ok(texts)
 }

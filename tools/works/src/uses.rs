@@ -16,7 +16,7 @@ use csl_uses::book::{book_label, the_c_book};
 use csl_uses::by_date::{issue_key, order_by_issue};
 use csl_uses::by_snapshot::{cite_by_snapshot, key_by_snapshot};
 use csl_uses::cite::{bibliography_line, cite, house_style, page_cite, the_compilers_book};
-use csl_uses::document::{document, told_apart};
+use csl_uses::document::{texts_of, told_apart};
 use csl_uses::film::{Film, metropolis, title_of};
 use csl_uses::halves::{authors_half, is_other_half_silent, other_half};
 use csl_uses::in_text::{bare_style, cite_in_text};
@@ -183,11 +183,11 @@ fn show_document(
     style: &ListStyle,
     works: &[Entry],
 ) -> Result<(), WorkError> {
-    let document = document(alloc, style, works)?;
-    for citation in &document.citations {
+    let texts = texts_of(alloc, style, works)?;
+    for citation in &texts.citations {
         writeln!(out, "citation: {citation}")?;
     }
-    for line in &document.bibliography {
+    for line in &texts.bibliography {
         writeln!(out, "bibliography: {line}")?;
     }
     Ok(())
