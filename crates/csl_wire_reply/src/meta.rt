@@ -1,0 +1,91 @@
+//! The kinds of nodes that rendered elements.
+
+use crate::members::{put, put_number, put_text, put_text_if};
+use csl_elements::NameVariable;
+use csl_tree::ElemMeta;
+use lit_model::{Memory, Person};
+use serde_json::{Map, Value};
+use std::alloc::Global;
+
+/// The text of an option, borrowed.
+fn borrowed(text: &Option<String>) -> Option<&str> {
+    match text {
+        Some(text) => Some(text.as_str()),
+        None => None,
+    }
+}
+
+/// A person, as an entry has it.
+fn person_value(alloc: Global, person: &Person) -> Result<Value, Memory> {
+    let mut members = Map::new(alloc);
+    put_text(alloc, &mut members, "family", person.name.as_str())?;
+    put_text_if(alloc, &mut members, "given", borrowed(&person.given_name))?;
+    put_text_if(alloc, &mut members, "prefix", borrowed(&person.prefix))?;
+    put_text_if(alloc, &mut members, "suffix", borrowed(&person.suffix))?;
+    put_text_if(alloc, &mut members, "alias", borrowed(&person.alias))?;
+    if person.comma_suffix {
+        put(alloc, &mut members, "comma-suffix", Value::Bool(true))?;
+    }
+    Ok(Value::Object(members))
+}
+
+/// The persons of a variable, as a list.
+fn persons_value(alloc: Global, persons: &[Person]) -> Result<Value, Memory> {
+    let mut items = Vec::with_capacity(alloc, persons.len())?;
+    for person in persons {
+        items.push(person_value(alloc, person)?)?;
+    }
+    Ok(Value::Array(items))
+}
+
+/// The variables of a `cs:names` with their persons, as a list.
+fn names_value(alloc: Global, names: &[(Vec<Person>, NameVariable)]) -> Result<Value, Memory> {
+    let mut items = Vec::with_capacity(alloc, names.len())?;
+    for (persons, variable) in names {
+        let mut members = Map::new(alloc);
+        put_text(alloc, &mut members, "variable", variable.name())?;
+        let persons = persons_value(alloc, persons.as_slice())?;
+        put(alloc, &mut members, "persons", persons)?;
+        items.push(Value::Object(members))?;
+    }
+    Ok(Value::Array(items))
+}
+
+/// The name of a kind.
+fn kind_name(meta: &ElemMeta) -> &'static str {
+    match meta {
+        ElemMeta::Names(_) => "names",
+        ElemMeta::Date => "date",
+        ElemMeta::Text => "text",
+        ElemMeta::Number => "number",
+        ElemMeta::Label => "label",
+        ElemMeta::CitationNumber => "citation-number",
+        ElemMeta::Name(_, _) => "name",
+        ElemMeta::Entry(_) => "entry",
+        ElemMeta::CitationLabel => "citation-label",
+    }
+}
+
+/// A kind, as an object.
+pub(crate) fn meta_value(alloc: Global, meta: &ElemMeta) -> Result<Value, Memory> {
+    let mut members = Map::new(alloc);
+    put_text(alloc, &mut members, "kind", kind_name(meta))?;
+    match meta {
+        ElemMeta::Names(names) => {
+            let names = names_value(alloc, names.as_slice())?;
+            put(alloc, &mut members, "names", names)?;
+        }
+        ElemMeta::Name(variable, index) => {
+            put_text(alloc, &mut members, "variable", variable.name())?;
+            put_number(alloc, &mut members, "index", *index as u64)?;
+        }
+        ElemMeta::Entry(index) => put_number(alloc, &mut members, "index", *index as u64)?,
+        ElemMeta::Date
+        | ElemMeta::Text
+        | ElemMeta::Number
+        | ElemMeta::Label
+        | ElemMeta::CitationNumber
+        | ElemMeta::CitationLabel => {}
+    }
+    Ok(Value::Object(members))
+}

@@ -1,0 +1,99 @@
+//! A content as the tree of its texts and elements.
+
+use crate::members::{put, put_number, put_text, put_text_if};
+use crate::meta::meta_value;
+use crate::names;
+use csl_tree::{Elem, ElemChild, ElemChildren, Formatted, Formatting};
+use lit_model::Memory;
+use serde_json::{Map, Value};
+use std::alloc::Global;
+
+/// Sets the members of a formatting. A default has none.
+fn put_formatting(
+    alloc: Global,
+    members: &mut Map<String, Value>,
+    formatting: Formatting,
+) -> Result<(), Memory> {
+    let style = names::font_style(formatting.font_style);
+    put_text_if(alloc, members, "font-style", style)?;
+    let variant = names::font_variant(formatting.font_variant);
+    put_text_if(alloc, members, "font-variant", variant)?;
+    let weight = names::font_weight(formatting.font_weight);
+    put_text_if(alloc, members, "font-weight", weight)?;
+    let decoration = names::text_decoration(formatting.text_decoration);
+    put_text_if(alloc, members, "text-decoration", decoration)?;
+    let align = names::vertical_align(formatting.vertical_align);
+    put_text_if(alloc, members, "vertical-align", align)
+}
+
+/// The members of a text.
+fn text_members(alloc: Global, text: &Formatted) -> Result<Map<String, Value>, Memory> {
+    let mut members = Map::new(alloc);
+    put_text(alloc, &mut members, "text", text.text.as_str())?;
+    put_formatting(alloc, &mut members, text.formatting)?;
+    Ok(members)
+}
+
+/// A link: a text with an address.
+fn link_value(alloc: Global, text: &Formatted, url: &str) -> Result<Value, Memory> {
+    let mut members = text_members(alloc, text)?;
+    put_text(alloc, &mut members, "url", url)?;
+    Ok(Value::Object(members))
+}
+
+/// A text that a typesetter reads.
+fn markup_value(alloc: Global, markup: &str) -> Result<Value, Memory> {
+    let mut members = Map::new(alloc);
+    put_text(alloc, &mut members, "markup", markup)?;
+    Ok(Value::Object(members))
+}
+
+/// A place for the text of a cite.
+fn place_value(alloc: Global, cite: usize, formatting: Formatting) -> Result<Value, Memory> {
+    let mut members = Map::new(alloc);
+    put_number(alloc, &mut members, "cite", cite as u64)?;
+    put_formatting(alloc, &mut members, formatting)?;
+    Ok(Value::Object(members))
+}
+
+/// An element around children that were made.
+fn elem_value(alloc: Global, elem: &Elem, children: Value) -> Result<Value, Memory> {
+    let mut members = Map::new(alloc);
+    put(alloc, &mut members, "children", children)?;
+    if let Some(display) = elem.display {
+        put_text(alloc, &mut members, "display", names::display(display))?;
+    }
+    if let Some(meta) = &elem.meta {
+        let meta = meta_value(alloc, meta)?;
+        put(alloc, &mut members, "meta", meta)?;
+    }
+    Ok(Value::Object(members))
+}
+
+/// A child.
+#[cycle(values)]
+fn child_value(alloc: Global, child: &ElemChild) -> Result<Value, Memory> {
+    match child {
+        ElemChild::Text(text) => {
+            let members = text_members(alloc, text)?;
+            Ok(Value::Object(members))
+        }
+        ElemChild::Elem(elem) => {
+            let children = tree_value(alloc, &elem.children)?;
+            elem_value(alloc, elem, children)
+        }
+        ElemChild::Markup(markup) => markup_value(alloc, markup.as_str()),
+        ElemChild::Link { text, url } => link_value(alloc, text, url.as_str()),
+        ElemChild::Transparent { cite_idx, format } => place_value(alloc, *cite_idx, *format),
+    }
+}
+
+/// A content as the list of its children. An element has two levels more than what is in it.
+#[cycle(values)]
+pub fn tree_value(alloc: Global, content: &ElemChildren) -> Result<Value, Memory> {
+    let mut items = Vec::with_capacity(alloc, content.0.len())?;
+    for child in &content.0 {
+        items.push(child_value(alloc, child)?)?;
+    }
+    Ok(Value::Array(items))
+}
