@@ -14,9 +14,14 @@ use std::rt::Env;
 /// The longest line, in bytes, without its end.
 const LONGEST_LINE: usize = 32_000_000;
 
-/// The limits that the words after the program's name ask for, or the status without them.
-fn limits(rt: &(impl Env + AllocGlobal)) -> Result<SessionLimits, u8> {
-    let words: io::Result<Vec<String>> = env::args(rt).and_then(|words| words.collect(rt.alloc()));
+/// The program's words, its name among them.
+fn words(rt: &(impl Env + AllocGlobal)) -> io::Result<Vec<String>> {
+    let words = env::args(rt)?;
+    Ok(words.collect(rt.alloc())?)
+}
+
+/// The limits that the words ask for, or the status without them.
+fn limits(words: io::Result<Vec<String>>) -> Result<SessionLimits, u8> {
     match words {
         Ok(words) => match words.as_slice() {
             [_name] => Ok(SessionLimits::of_strangers()),
@@ -30,7 +35,7 @@ fn limits(rt: &(impl Env + AllocGlobal)) -> Result<SessionLimits, u8> {
 
 /// Answers the lines of standard input, and returns the program's status.
 fn status(rt: &(impl Env + Input + Print + AllocGlobal)) -> u8 {
-    let limits = match limits(rt) {
+    let limits = match limits(words(rt)) {
         Ok(limits) => limits,
         Err(status) => return status,
     };

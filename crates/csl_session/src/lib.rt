@@ -5,13 +5,14 @@
 #![tactic(auto)]
 
 mod asked;
-mod fault;
 mod hello;
+mod keeping;
 mod kept;
 mod limits;
 mod lines;
 mod op;
 mod rendering;
+mod replies;
 mod session;
 mod style_facts;
 

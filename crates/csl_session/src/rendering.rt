@@ -1,9 +1,8 @@
 //! The cites, the lines of a bibliography and the sort keys of a request.
 
-use crate::fault::of_rendering;
 use crate::limits::SessionLimits;
 use csl::style::Scope;
-use csl::{EntryLike, Renderer, Sorting};
+use csl::{EntryLike, Error, Renderer, Sorting};
 use csl_elements::{
     Date, Layout, LayoutRenderingElement, Names, Number, NumberOrPageVariable, Text, Variable,
 };
@@ -12,6 +11,19 @@ use csl_wire_cite::{WireCite, cite_of};
 use csl_wire_reply::{Formats, content_value};
 use serde_json::{Map, Value};
 use std::alloc::Global;
+
+/// Why nothing was rendered.
+fn of_rendering(alloc: Global, error: Error) -> WireError {
+    match error {
+        Error::Limit => WireError::of(
+            alloc,
+            Code::TooLarge,
+            "the request renders more than is allowed",
+        ),
+        // No other error comes of rendering.
+        _ => WireError::Memory,
+    }
+}
 
 /// What is rendered of each item of a batch.
 #[derive(Clone, Copy)]
@@ -68,7 +80,7 @@ fn cite_value<T: EntryLike>(
         None => renderer.cite(alloc, work, &cite.properties),
     };
     match rendered {
-        Ok(rendered) => Ok(content_value(alloc, rendered.content, formats)?),
+        Ok(rendered) => content_value(alloc, rendered.content, formats),
         Err(error) => Err(of_rendering(alloc, error)),
     }
 }
@@ -82,7 +94,7 @@ fn line_value<T: EntryLike>(
     formats: Formats,
 ) -> Result<Value, WireError> {
     match renderer.bibliography_entry(alloc, work, &cite.properties) {
-        Ok(Some(rendered)) => Ok(content_value(alloc, rendered.content, formats)?),
+        Ok(Some(rendered)) => content_value(alloc, rendered.content, formats),
         Ok(None) => Ok(Value::Null),
         Err(error) => Err(of_rendering(alloc, error)),
     }

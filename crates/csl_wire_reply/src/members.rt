@@ -1,4 +1,10 @@
 //! Members of objects.
+//! Definitions: specs/Members.antt.
+
+ghost use Rattle.std.specs.Prelude.{◌≡◌, OnOk, option_map};
+ghost use Rattle.serde_json.specs.Data.{number, string, unsigned, put as with_member};
+ghost use Rattle.serde_json.specs.View.{view, members_view};
+ghost use Rattle.csl_wire_reply.specs.Members as spec;
 
 use lit_model::Memory;
 use serde_json::{Map, Value};
@@ -10,7 +16,10 @@ pub fn put(
     members: &mut Map<String, Value>,
     name: &str,
     value: Value,
-) -> Result<(), Memory> {
+) -> Result<(), Memory>
+    ensures { OnOk result (members_view members.new.entries
+        ≡ with_member name.now (view value) (members_view members.old.entries)) }
+{
     serde_json::put(members, alloc, name, value)?;
     Ok(())
 }
@@ -21,7 +30,10 @@ pub fn put_text(
     members: &mut Map<String, Value>,
     name: &str,
     text: &str,
-) -> Result<(), Memory> {
+) -> Result<(), Memory>
+    ensures { OnOk result (members_view members.new.entries
+        ≡ with_member name.now (string text.now) (members_view members.old.entries)) }
+{
     let text = String::from_str(alloc, text)?;
     put(alloc, members, name, Value::String(text))
 }
@@ -32,7 +44,10 @@ pub fn put_number(
     members: &mut Map<String, Value>,
     name: &str,
     number: u64,
-) -> Result<(), Memory> {
+) -> Result<(), Memory>
+    ensures { OnOk result (members_view members.new.entries
+        ≡ with_member name.now (number (unsigned number)) (members_view members.old.entries)) }
+{
     put(alloc, members, name, Value::from(number))
 }
 
@@ -42,7 +57,10 @@ pub(crate) fn put_text_if(
     members: &mut Map<String, Value>,
     name: &str,
     text: Option<&str>,
-) -> Result<(), Memory> {
+) -> Result<(), Memory>
+    ensures { OnOk result (members_view members.new.entries
+        ≡ spec.put_if name.now (option_map (λ t. t.now) text) (members_view members.old.entries)) }
+{
     match text {
         Some(text) => put_text(alloc, members, name, text),
         None => Ok(()),

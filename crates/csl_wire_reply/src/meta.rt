@@ -1,4 +1,13 @@
 //! The kinds of nodes that rendered elements.
+//! Definitions: specs/Members.antt, specs/Tree.antt.
+
+ghost use Rattle.std.specs.Prelude.{◌≡◌, IfOk, OnOk, map, option_map, string_bytes};
+ghost use Rattle.serde_json.specs.Data.{array};
+ghost use Rattle.serde_json.specs.View.{items_of, view, members_view};
+ghost use Rattle.lit_model.specs.Person.{person_view};
+ghost use Rattle.csl_tree.specs.Tokens.{meta_of, names_of};
+ghost use Rattle.csl_wire_reply.specs.Members.{person_data};
+ghost use Rattle.csl_wire_reply.specs.Tree as spec;
 
 use crate::members::{put, put_number, put_text, put_text_if};
 use csl_elements::NameVariable;
@@ -8,7 +17,9 @@ use serde_json::{Map, Value};
 use std::alloc::Global;
 
 /// The text of an option, borrowed.
-fn borrowed(text: &Option<String>) -> Option<&str> {
+fn borrowed(text: &Option<String>) -> Option<&str>
+    ensures { option_map (λ t. t.now) result ≡ option_map string_bytes text.now }
+{
     match text {
         Some(text) => Some(text.as_str()),
         None => None,
@@ -16,7 +27,9 @@ fn borrowed(text: &Option<String>) -> Option<&str> {
 }
 
 /// A person, as an entry has it.
-fn person_value(alloc: Global, person: &Person) -> Result<Value, Memory> {
+fn person_value(alloc: Global, person: &Person) -> Result<Value, Memory>
+    ensures { IfOk result (λ v. view v ≡ person_data (person_view person.now)) }
+{
     let mut members = Map::new(alloc);
     put_text(alloc, &mut members, "family", person.name.as_str())?;
     put_text_if(alloc, &mut members, "given", borrowed(&person.given_name))?;
@@ -30,7 +43,10 @@ fn person_value(alloc: Global, person: &Person) -> Result<Value, Memory> {
 }
 
 /// The persons of a variable, as a list.
-fn persons_value(alloc: Global, persons: &[Person]) -> Result<Value, Memory> {
+fn persons_value(alloc: Global, persons: &[Person]) -> Result<Value, Memory>
+    ensures { IfOk result (λ v. view v
+        ≡ array (items_of (map person_data (map person_view persons.now)))) }
+{
     let mut items = Vec::with_capacity(alloc, persons.len())?;
     for person in persons {
         items.push(person_value(alloc, person)?)?;
@@ -39,7 +55,10 @@ fn persons_value(alloc: Global, persons: &[Person]) -> Result<Value, Memory> {
 }
 
 /// The variables of a `cs:names` with their persons, as a list.
-fn names_value(alloc: Global, names: &[(Vec<Person>, NameVariable)]) -> Result<Value, Memory> {
+fn names_value(alloc: Global, names: &[(Vec<Person>, NameVariable)]) -> Result<Value, Memory>
+    ensures { IfOk result (λ v. view v
+        ≡ array (items_of (map spec.names_data (map names_of names.now)))) }
+{
     let mut items = Vec::with_capacity(alloc, names.len())?;
     for (persons, variable) in names {
         let mut members = Map::new(alloc);
@@ -52,7 +71,9 @@ fn names_value(alloc: Global, names: &[(Vec<Person>, NameVariable)]) -> Result<V
 }
 
 /// The name of a kind.
-fn kind_name(meta: &ElemMeta) -> &'static str {
+fn kind_name(meta: &ElemMeta) -> &'static str
+    ensures { result.now ≡ spec.kind_name (meta_of meta.now) }
+{
     match meta {
         ElemMeta::Names(_) => "names",
         ElemMeta::Date => "date",
@@ -67,7 +88,9 @@ fn kind_name(meta: &ElemMeta) -> &'static str {
 }
 
 /// A kind, as an object.
-pub(crate) fn meta_value(alloc: Global, meta: &ElemMeta) -> Result<Value, Memory> {
+pub(crate) fn meta_value(alloc: Global, meta: &ElemMeta) -> Result<Value, Memory>
+    ensures { IfOk result (λ v. view v ≡ spec.meta_data (meta_of meta.now)) }
+{
     let mut members = Map::new(alloc);
     put_text(alloc, &mut members, "kind", kind_name(meta))?;
     match meta {

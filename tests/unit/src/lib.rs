@@ -14,6 +14,8 @@ mod csl_finish_tests;
 #[cfg(test)]
 mod csl_render_tests;
 #[cfg(test)]
+mod csl_session_tests;
+#[cfg(test)]
 mod csl_style_tests;
 #[cfg(test)]
 mod csl_tests;
@@ -21,6 +23,8 @@ mod csl_tests;
 mod csl_tree_tests;
 #[cfg(test)]
 mod csl_wire_cite_tests;
+#[cfg(test)]
+mod csl_wire_reply_tests;
 #[cfg(test)]
 mod csl_wire_tests;
 #[cfg(test)]

@@ -1,0 +1,2 @@
+-- The definitions that the contracts of `csl_session` cite.
+pub mod Replies
