@@ -1,6 +1,13 @@
 //! Cites: what the citation says of a cite (CSL 1.0.2, Choose: position; Locators; Number Variables;
 //! Disambiguation), and the part of it that is wanted.
 
+ghost use Rattle.std.specs.Prelude.{◌≡◌, ◌+◌, Some, IfOk, codes, option_map};
+ghost use Rattle.serde_json.specs.View.{view};
+ghost use Rattle.csl_entry.specs.Cite.{cite_state, locator_view};
+ghost use Rattle.csl_entry.specs.Numbers as spec;
+ghost use Rattle.csl_wire.specs.Reading.{member, read_member, read_number};
+ghost use Rattle.csl_wire_cite.specs.Cites.{read_citation_number, IsCite, IsLocator, IsLocatorIf, IsPart};
+
 use crate::disambiguation::disambiguation;
 use crate::limits::WorkLimits;
 use csl_elements::Variable;
@@ -41,7 +48,9 @@ static FORMS: [(&str, SpecialForm); 3] = [
 static LOCATOR: [&str; 2] = ["label", "value"];
 
 /// A locator. Without a text, the caller writes it.
-fn locator<'v>(reader: Reader, value: &'v Value) -> Result<SpecificLocator<'v>, WireError> {
+fn locator<'v>(reader: Reader, value: &'v Value) -> Result<SpecificLocator<'v>, WireError>
+    ensures { IfOk result (λ l. IsLocator (view value.now) (locator_view l)) }
+{
     let form = Form::of(reader, value, &[&LOCATOR])?;
     let label = form.one_named("label")?;
     match form.word("value")? {
@@ -58,10 +67,10 @@ fn locator<'v>(reader: Reader, value: &'v Value) -> Result<SpecificLocator<'v>, 
 }
 
 /// The locator among the members.
-fn locator_of<'v>(
-    numbers: Reader,
-    form: Form<'v>,
-) -> Result<Option<SpecificLocator<'v>>, WireError> {
+fn locator_of<'v>(numbers: Reader, form: Form<'v>) -> Result<Option<SpecificLocator<'v>>, WireError>
+    ensures { IfOk result (λ l. IsLocatorIf (member (codes "locator") (view form.entry.value.now))
+        (option_map locator_view l)) }
+{
     match form.member("locator") {
         Some(value) => {
             let locator = within(Step::Member("locator"), locator(numbers, value))?;
@@ -72,7 +81,10 @@ fn locator_of<'v>(
 }
 
 /// The citation number, which counts from 1. One that is absent is 1.
-fn citation_number(form: Form<'_>) -> Result<CitationNumber, WireError> {
+fn citation_number(form: Form<'_>) -> Result<CitationNumber, WireError>
+    ensures { IfOk result (λ n. read_citation_number (view form.entry.value.now)
+        ≡ Some (spec.citation_number n + 1)) }
+{
     let number = form.number("citation-number")?.unwrap_or(1);
     match number.checked_sub(1).and_then(CitationNumber::new) {
         Some(number) => Ok(number),
@@ -86,7 +98,10 @@ fn citation_number(form: Form<'_>) -> Result<CitationNumber, WireError> {
 }
 
 /// The number of the first note that cites the entry.
-fn first_note_number(form: Form<'_>) -> Result<Option<NoteNumber>, WireError> {
+fn first_note_number(form: Form<'_>) -> Result<Option<NoteNumber>, WireError>
+    ensures { IfOk result (λ n. read_member read_number (codes "first-reference-note-number")
+        (view form.entry.value.now) ≡ Some (option_map spec.note_number n)) }
+{
     let Some(number) = form.number("first-reference-note-number")? else {
         return Ok(None);
     };
@@ -102,7 +117,9 @@ fn first_note_number(form: Form<'_>) -> Result<Option<NoteNumber>, WireError> {
 }
 
 /// The part of the cite that is wanted, if not the whole.
-fn special_form(form: Form<'_>) -> Result<Option<SpecialForm>, WireError> {
+fn special_form(form: Form<'_>) -> Result<Option<SpecialForm>, WireError>
+    ensures { IfOk result (IsPart (view form.entry.value.now)) }
+{
     let part = form.choice("form", &FORMS)?;
     match form.named::<Variable>("only")? {
         Some(variable) => match part {
@@ -137,7 +154,9 @@ fn properties(
     alloc: Global,
     limits: WorkLimits,
     form: Form<'_>,
-) -> Result<CiteProperties<'_>, WireError> {
+) -> Result<CiteProperties<'_>, WireError>
+    ensures { IfOk result (λ c. IsCite (view form.entry.value.now) (cite_state c)) }
+{
     let (is_first, ibid) = form
         .choice("position", &POSITIONS)?
         .unwrap_or((true, IbidState::Different));
@@ -171,7 +190,10 @@ pub fn cite_of<'v>(
     alloc: Global,
     value: &'v Value,
     limits: WorkLimits,
-) -> Result<WireCite<'v>, WireError> {
+) -> Result<WireCite<'v>, WireError>
+    ensures cite { IfOk result (λ c. IsCite (view value.now) (cite_state c.properties)) }
+    ensures part { IfOk result (λ c. IsPart (view value.now) c.form) }
+{
     let form = Form::of(limits.texts(alloc), value, &[&CITE])?;
     let part = special_form(form)?;
     let properties = properties(alloc, limits, form)?;

@@ -1,5 +1,13 @@
 //! Dates (CSL 1.0.2, Date Variables).
 
+ghost use Rattle.std.specs.Prelude.{◌≡◌, ◌≤◌, ◌<◌, Some, codes, suc, IfOk, IfSome, map, option_map};
+ghost use Rattle.serde_json.specs.View.{view};
+ghost use Rattle.lit_model.specs.Date.{date_view};
+ghost use Rattle.csl_wire.specs.Reading.{read_member, read_number, read_one};
+ghost use Rattle.csl_wire_cite.specs.Dates.{IsDate};
+ghost use Rattle.csl_wire_cite.specs.Reads.{read_integer};
+
+use crate::numbers::integer;
 use csl_wire::{Code, Form, Reader, Step, WireError, within};
 use lit_model::{Date, Season};
 use serde_json::Value;
@@ -12,31 +20,21 @@ static SEASONS: [(&str, Season); 4] = [
     ("winter", Season::Winter),
 ];
 
-/// A year. The year before year 1 is 0.
-fn year_of(reader: Reader, value: &Value) -> Result<i32, WireError> {
-    if !value.is_number() {
-        return Err(WireError::of(reader.alloc, Code::WrongType, "a number goes here"));
-    }
-    match value.as_i64().and_then(|number| i32::try_from(number).ok()) {
-        Some(number) => Ok(number),
-        None => Err(WireError::of(
-            reader.alloc,
-            Code::OutOfRange,
-            "a whole number from -2147483648 to 2147483647 goes here",
-        )),
-    }
-}
-
 /// The year of a date. It has to be there.
-fn year(form: Form<'_>) -> Result<i32, WireError> {
+fn year(form: Form<'_>) -> Result<i32, WireError>
+    ensures { IfOk result (λ y. read_one read_integer (codes "year") (view form.entry.value.now)
+        ≡ Some y) }
+{
     match form.member("year") {
-        Some(value) => within(Step::Member("year"), year_of(form.reader, value)),
+        Some(value) => within(Step::Member("year"), integer(form.reader, value)),
         None => Err(form.missing("year")),
     }
 }
 
 /// A number from 1 to `last`, counted from 0.
-fn counted_from_zero(number: u32, last: u8) -> Option<u8> {
+fn counted_from_zero(number: u32, last: u8) -> Option<u8>
+    ensures { IfSome result (λ n. (suc n ≡ number) × (n < last)) }
+{
     let number = u8::try_from(number).ok()?;
     if number > last {
         return None;
@@ -50,7 +48,11 @@ fn counted(
     name: &'static str,
     last: u8,
     reason: &'static str,
-) -> Result<Option<u8>, WireError> {
+) -> Result<Option<u8>, WireError>
+    ensures read { IfOk result (λ n. read_member read_number name.now (view form.entry.value.now)
+        ≡ Some (option_map suc n)) }
+    ensures range { IfOk result (λ n. IfSome n (λ n. n < last)) }
+{
     let Some(number) = form.number(name)? else {
         return Ok(None);
     };
@@ -66,7 +68,9 @@ fn counted(
 static DATE: [&str; 5] = ["year", "month", "day", "season", "circa"];
 
 /// A date. Months and days count from 1.
-pub(crate) fn date(reader: Reader, value: &Value) -> Result<Date, WireError> {
+pub(crate) fn date(reader: Reader, value: &Value) -> Result<Date, WireError>
+    ensures { IfOk result (λ d. IsDate (view value.now) (date_view d)) }
+{
     let form = Form::of(reader, value, &[&DATE])?;
     let year = year(form)?;
     let month = counted(form, "month", 12, "a month is from 1 to 12")?;

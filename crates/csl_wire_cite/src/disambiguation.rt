@@ -1,5 +1,12 @@
 //! What disambiguates a cite (CSL 1.0.2, Disambiguation).
 
+ghost use Rattle.std.specs.Prelude.{◌≡◌, Some, IfOk, map};
+ghost use Rattle.serde_json.specs.View.{view};
+ghost use Rattle.csl_entry.specs.Cite.{disambiguation_of};
+ghost use Rattle.csl_entry.specs.NameProperties.{name_properties};
+ghost use Rattle.csl_wire_cite.specs.Disambiguations.{read_name_form, read_name_forms, AreForms, IsDisambiguation};
+ghost use Rattle.csl_wire_cite.specs.Reads.{read_each};
+
 use crate::limits::WorkLimits;
 use crate::year_suffix::year_suffix;
 use csl_elements::NameVariable;
@@ -17,7 +24,9 @@ static NAME_FORMS: [(&str, DisambiguatedNameForm); 5] = [
 ];
 
 /// The form of a name. That of one that is not shown is `null`.
-fn name_form(reader: Reader, value: &Value) -> Result<Option<DisambiguatedNameForm>, WireError> {
+fn name_form(reader: Reader, value: &Value) -> Result<Option<DisambiguatedNameForm>, WireError>
+    ensures { IfOk result (λ f. read_name_form (view value.now) ≡ Some f) }
+{
     if value.is_null() {
         return Ok(None);
     }
@@ -26,11 +35,13 @@ fn name_form(reader: Reader, value: &Value) -> Result<Option<DisambiguatedNameFo
 }
 
 /// The form of each name of a list.
+#[tactic(auto, using(crate::proofs::Lists::each_read))]
 fn name_forms(
     reader: Reader,
-    value: &Value,
-) -> Result<Vec<Option<DisambiguatedNameForm>>, WireError> {
-    let items = items_of(reader, value)?;
+    items: &[Value],
+) -> Result<Vec<Option<DisambiguatedNameForm>>, WireError>
+    ensures { IfOk result (λ fs. read_each read_name_form (map view items.now) ≡ Some fs.items) }
+{
     let mut forms = Vec::with_capacity(reader.alloc, items.len())?;
     for (place, item) in items.iter().enumerate() {
         forms.push(within(Step::Item(place), name_form(reader, item))?)?;
@@ -38,14 +49,30 @@ fn name_forms(
     Ok(forms)
 }
 
+/// The form of each name of the list that a value is.
+fn list_of_forms(
+    reader: Reader,
+    value: &Value,
+) -> Result<Vec<Option<DisambiguatedNameForm>>, WireError>
+    ensures { IfOk result (λ fs. read_name_forms (view value.now) ≡ Some fs.items) }
+{
+    let items = items_of(reader, value)?;
+    let forms = name_forms(reader, items)?;
+    Ok(forms)
+}
+
 /// The forms of the names of lists.
+#[tactic(auto, using(crate::proofs::Lists::each_read))]
 fn lists_of_forms(
     reader: Reader,
     items: &[Value],
-) -> Result<Vec<Vec<Option<DisambiguatedNameForm>>>, WireError> {
+) -> Result<Vec<Vec<Option<DisambiguatedNameForm>>>, WireError>
+    ensures { IfOk result (λ ls. read_each read_name_forms (map view items.now)
+        ≡ Some (map (λ fs. fs.items) ls.items)) }
+{
     let mut lists = Vec::with_capacity(reader.alloc, items.len())?;
     for (place, item) in items.iter().enumerate() {
-        lists.push(within(Step::Item(place), name_forms(reader, item))?)?;
+        lists.push(within(Step::Item(place), list_of_forms(reader, item))?)?;
     }
     Ok(lists)
 }
@@ -69,7 +96,9 @@ fn forms_of_names(
     limits: WorkLimits,
     reader: Reader,
     value: &Value,
-) -> Result<NameDisambiguationProperties, WireError> {
+) -> Result<NameDisambiguationProperties, WireError>
+    ensures { IfOk result (λ p. AreForms (view value.now) (name_properties p)) }
+{
     let form = Form::of(reader, value, &[&NAMES])?;
     let default = form.one_choice("default", &NAME_FORMS)?;
     let items = form.items("lists")?;
@@ -101,7 +130,10 @@ fn several_ways(form: Form<'_>) -> WireError {
 pub(crate) fn disambiguation(
     limits: WorkLimits,
     form: Form<'_>,
-) -> Result<DisambiguateState, WireError> {
+) -> Result<DisambiguateState, WireError>
+    ensures { IfOk result (λ s. IsDisambiguation (view form.entry.value.now)
+        (disambiguation_of s)) }
+{
     let is_chosen = form.is_true("disambiguate")?;
     let suffix = year_suffix(form)?;
     match (form.member("names"), suffix, is_chosen) {

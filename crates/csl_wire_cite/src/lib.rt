@@ -4,19 +4,20 @@
 //! An error that the docs of a call do not explain means out of memory.
 #![tactic(auto)]
 
+mod answers;
 mod cites;
 mod dates;
 mod disambiguation;
+mod entries;
 mod entry;
 mod limits;
 mod numbers;
 mod persons;
 mod sizes;
 mod texts;
-mod variables;
 mod year_suffix;
 
 pub use cites::{WireCite, cite_of};
+pub use entries::entry_of;
 pub use entry::WireEntry;
 pub use limits::WorkLimits;
-pub use variables::entry_of;

@@ -2,3 +2,10 @@
 //! hand.
 
 mod cites;
+mod dates;
+mod entries;
+mod limits;
+mod reading;
+mod refusals;
+mod rendered;
+mod variables;
