@@ -1,10 +1,20 @@
 //! The formats of a reply.
+//! Definitions: specs/Contents.antt.
+
+ghost use Rattle.std.specs.Prelude.{◌≡◌, IfOk, OnOk};
+ghost use Rattle.serde_json.specs.View.{view, members_view};
+ghost use Rattle.csl_tree.specs.Tokens.{tokens};
+ghost use Rattle.csl_tree.specs.Tree.{tree};
+ghost use Rattle.csl_tree.specs.Write.{text_in_format};
+ghost use Rattle.csl_wire_reply.specs.Members.{put_if};
+ghost use Rattle.csl_wire_reply.specs.Contents.{when, IsMarked, IsReplyOf, IsWithTree};
 
 use crate::members::put;
 use crate::tree::tree_value;
 use csl_finish::with_web_links;
 use csl_tree::{BufWriteFormat, ElemChildren, simplify_fully};
 use csl_wire::WireError;
+use lit_model::Memory;
 use serde_json::{Map, Value};
 use std::alloc::Global;
 
@@ -24,23 +34,65 @@ pub struct Formats {
 /// How many elements may stand in one another in a tree. A reply has then at most 127 levels.
 const MOST_LEVELS: u8 = 56;
 
-/// The HTML and the tree of a content, as far as they are wanted.
-fn put_marked(
+/// Sets a member to the text of a content in a format, if it is wanted.
+fn put_format(
+    alloc: Global,
+    members: &mut Map<String, Value>,
+    name: &str,
+    content: &ElemChildren,
+    format: BufWriteFormat,
+    is_wanted: bool,
+) -> Result<(), Memory>
+    ensures { OnOk result (members_view members.new.entries ≡ put_if name.now
+        (when is_wanted (text_in_format format (tokens content.now)))
+        (members_view members.old.entries)) }
+{
+    if is_wanted {
+        let text = content.to_text(alloc, format)?;
+        put(alloc, members, name, Value::String(text))?;
+    }
+    Ok(())
+}
+
+/// Sets a member to the tree of a content, if it is wanted.
+fn put_tree(
     alloc: Global,
     members: &mut Map<String, Value>,
     content: &ElemChildren,
-    formats: Formats,
-) -> Result<(), WireError> {
-    if formats.html {
-        let html = content.to_text(alloc, BufWriteFormat::Html)?;
-        put(alloc, members, "html", Value::String(html))?;
-    }
-    if formats.tree {
+    is_wanted: bool,
+) -> Result<(), WireError>
+    ensures { OnOk result (IsWithTree is_wanted (tree content.now)
+        (members_view members.old.entries) (members_view members.new.entries)) }
+{
+    if is_wanted {
         let simple = simplify_fully(alloc, content)?;
-        let tree = tree_value(alloc, &simple, MOST_LEVELS)?;
-        put(alloc, members, "tree", tree)?;
+        let value = tree_value(alloc, &simple, MOST_LEVELS)?;
+        put(alloc, members, "tree", value)?;
     }
     Ok(())
+}
+
+/// The members, with the HTML and the tree of a content.
+fn marked_value(
+    alloc: Global,
+    before: Map<String, Value>,
+    content: &ElemChildren,
+    formats: Formats,
+) -> Result<Value, WireError>
+    ensures { IfOk result (λ v. IsMarked formats content.now (members_view before.entries)
+        (view v)) }
+{
+    let mut members = before;
+    put_format(
+        alloc,
+        &mut members,
+        "html",
+        content,
+        BufWriteFormat::Html,
+        formats.html,
+    )?;
+    put_tree(alloc, &mut members, content, formats.tree)?;
+    Ok(Value::Object(members))
 }
 
 /// A content in these formats, as an object.
@@ -52,17 +104,21 @@ pub fn content_value(
     alloc: Global,
     content: ElemChildren,
     formats: Formats,
-) -> Result<Value, WireError> {
+) -> Result<Value, WireError>
+    ensures { IfOk result (λ v. IsReplyOf formats content (view v)) }
+{
     let mut members = Map::new(alloc);
-    if formats.plain {
-        let plain = content.to_text(alloc, BufWriteFormat::Plain)?;
-        put(alloc, &mut members, "plain", Value::String(plain))?;
-    }
+    put_format(
+        alloc,
+        &mut members,
+        "plain",
+        &content,
+        BufWriteFormat::Plain,
+        formats.plain,
+    )?;
     if formats.has_all_links {
-        put_marked(alloc, &mut members, &content, formats)?;
-    } else {
-        let linked = with_web_links(alloc, content)?;
-        put_marked(alloc, &mut members, &linked, formats)?;
+        return marked_value(alloc, members, &content, formats);
     }
-    Ok(Value::Object(members))
+    let linked = with_web_links(alloc, content)?;
+    marked_value(alloc, members, &linked, formats)
 }

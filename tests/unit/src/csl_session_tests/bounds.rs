@@ -17,7 +17,7 @@ fn what_is_kept_is_bounded(rt: HostRuntime) -> Result<(), Fail> {
     };
     let mut session = Session::new(alloc, limits);
     let works =
-        r#"{"op":"works","works":[{"name":"a","work":{"key":"0123456789a"}},{"name":"b","work":{}},{"name":"c","work":{}}]}"#;
+        r#"{"op":"works","works":[{"name":"a","work":{"key":"0123456789"}},{"name":"b","work":{}},{"name":"c","work":{}}]}"#;
     let wanted =
         r#"{"id":null,"ok":[{"ok":{}},{"ok":{}},{"error":{"at":"/works/2","code":"full","message":"no more can be kept"}}]}"#;
     assert_reply(&rt, alloc, &mut session, works, wanted);

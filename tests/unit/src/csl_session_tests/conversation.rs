@@ -17,7 +17,7 @@ static TURNS: [(&str, &str); 22] = [
     ),
     (
         r#"{"id":2,"op":"cite","style":"ad","cites":[{"work":"kwan","cite":{"position":"third"}}]}"#,
-        r#"{"id":2,"ok":[{"error":{"at":"/cites/0/cite/position","code":"unknown-name","message":"no value here has this name: \"third\" (the nearest is \"first\")"}}]}"#,
+        r#"{"id":2,"ok":[{"error":{"at":"/cites/0/cite/position","code":"unknown-name","message":"no value here has this name: \"third\""}}]}"#,
     ),
     (
         r#"{"id":2,"op":"line","style":"ad","lines":[{"work":"kwan"}]}"#,

@@ -88,6 +88,7 @@ fn a_line_after_a_long_one_is_read(rt: HostRuntime) -> Result<(), Fail> {
 }
 
 /// A writer that refuses all.
+#[derive(Drop)]
 struct Closed;
 
 impl Write for Closed {

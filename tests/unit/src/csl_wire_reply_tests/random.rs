@@ -17,6 +17,7 @@ use std::test::Fail;
 const TREES: u32 = 10_000;
 
 /// Random numbers from a seed.
+#[derive(Drop)]
 struct Random {
     state: u64,
 }
