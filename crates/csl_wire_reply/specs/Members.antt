@@ -48,16 +48,16 @@ display_name display.RightInline = codes "right-inline"
 display_name display.Indent = codes "indent"
 
 -- the members, with a text if there is one
-pub put_if : List ℕ → Option (List ℕ) → Members → Members
+abbrev pub put_if : List ℕ → Option (List ℕ) → Members → Members
 put_if name None ms = ms
 put_if name (Some t) ms = put name (string t) ms
 
 -- the members, with `true` if it is
-pub put_flag : List ℕ → Bool → Members → Members
+abbrev pub put_flag : List ℕ → Bool → Members → Members
 put_flag name false ms = ms
 put_flag name true ms = put name (boolean true) ms
 
-pub put_formatting : Formatting → Members → Members
+abbrev pub put_formatting : Formatting → Members → Members
 put_formatting f ms =
     put_if (codes "vertical-align") (vertical_align f.vertical_align)
     (put_if (codes "text-decoration") (text_decoration f.text_decoration)
@@ -65,7 +65,7 @@ put_formatting f ms =
     (put_if (codes "font-variant") (font_variant f.font_variant)
     (put_if (codes "font-style") (font_style f.font_style) ms))))
 
-pub person_data : PersonView → Data
+abbrev pub person_data : PersonView → Data
 person_data p = object
     (put_flag (codes "comma-suffix") p.comma_suffix
     (put_if (codes "alias") p.alias

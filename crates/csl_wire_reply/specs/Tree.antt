@@ -16,7 +16,7 @@ use Rattle.csl_tree.specs.Tokens.{Meta, optional_meta, of_names, of_date, of_tex
 use Rattle.csl_wire_reply.specs.Members.{display_name, person_data, put_formatting}
 
 -- the persons of a variable
-pub names_data : List PersonView × NameVariable → Data
+abbrev pub names_data : List PersonView × NameVariable → Data
 names_data n = object
     (put (codes "persons") (array (items_of (map person_data n.0)))
     (put (codes "variable") (string (name_variable_name n.1)) no_members))
@@ -34,7 +34,7 @@ kind_name (of_entry n) = codes "entry"
 kind_name of_citation_label = codes "citation-label"
 
 -- the members, with what a kind has more
-pub put_detail : Meta → Members → Members
+abbrev pub put_detail : Meta → Members → Members
 put_detail (of_names ns) ms = put (codes "names") (array (items_of (map names_data ns))) ms
 put_detail of_date ms = ms
 put_detail of_text ms = ms
@@ -45,31 +45,31 @@ put_detail (of_name v n) ms = put (codes "index") (number (unsigned n)) (put (co
 put_detail (of_entry n) ms = put (codes "index") (number (unsigned n)) ms
 put_detail of_citation_label ms = ms
 
-pub meta_data : Meta → Data
+abbrev pub meta_data : Meta → Data
 meta_data m = object (put_detail m (put (codes "kind") (string (kind_name m)) no_members))
 
-pub put_display : Option Display → Members → Members
+abbrev pub put_display : Option Display → Members → Members
 put_display None ms = ms
 put_display (Some d) ms = put (codes "display") (string (display_name d)) ms
 
-pub put_meta : Option Meta → Members → Members
+abbrev pub put_meta : Option Meta → Members → Members
 put_meta None ms = ms
 put_meta (Some m) ms = put (codes "meta") (meta_data m) ms
 
 -- an element around its children
-pub elem_data : Option Display → Option Meta → Data → Data
+abbrev pub elem_data : Option Display → Option Meta → Data → Data
 elem_data d m children = object (put_meta m (put_display d (put (codes "children") children no_members)))
 
-pub text_members : List ℕ → Formatting → Members
+abbrev pub text_members : List ℕ → Formatting → Members
 text_members text f = put_formatting f (put (codes "text") (string text) no_members)
 
-pub link_data : List ℕ → Formatting → List ℕ → Data
+abbrev pub link_data : List ℕ → Formatting → List ℕ → Data
 link_data text f url = object (put (codes "url") (string url) (text_members text f))
 
-pub markup_data : List ℕ → Data
+abbrev pub markup_data : List ℕ → Data
 markup_data text = object (put (codes "markup") (string text) no_members)
 
-pub place_data : ℕ → Formatting → Data
+abbrev pub place_data : ℕ → Formatting → Data
 place_data n f = object (put_formatting f (put (codes "cite") (number (unsigned n)) no_members))
 
 -- one level of a tree, with the data of its parts
