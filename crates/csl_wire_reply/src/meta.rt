@@ -54,18 +54,25 @@ fn persons_value(alloc: Global, persons: &[Person]) -> Result<Value, Memory>
     Ok(Value::Array(items))
 }
 
+/// A variable with its persons.
+fn name_value(alloc: Global, name: &(Vec<Person>, NameVariable)) -> Result<Value, Memory>
+    ensures { IfOk result (λ v. view v ≡ spec.names_data (names_of name.now)) }
+{
+    let mut members = Map::new(alloc);
+    put_text(alloc, &mut members, "variable", name.1.name())?;
+    let persons = persons_value(alloc, name.0.as_slice())?;
+    put(alloc, &mut members, "persons", persons)?;
+    Ok(Value::Object(members))
+}
+
 /// The variables of a `cs:names` with their persons, as a list.
 fn names_value(alloc: Global, names: &[(Vec<Person>, NameVariable)]) -> Result<Value, Memory>
     ensures { IfOk result (λ v. view v
         ≡ array (items_of (map spec.names_data (map names_of names.now)))) }
 {
     let mut items = Vec::with_capacity(alloc, names.len())?;
-    for (persons, variable) in names {
-        let mut members = Map::new(alloc);
-        put_text(alloc, &mut members, "variable", variable.name())?;
-        let persons = persons_value(alloc, persons.as_slice())?;
-        put(alloc, &mut members, "persons", persons)?;
-        items.push(Value::Object(members))?;
+    for name in names {
+        items.push(name_value(alloc, name)?)?;
     }
     Ok(Value::Array(items))
 }
