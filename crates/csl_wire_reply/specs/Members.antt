@@ -1,6 +1,7 @@
 -- Objects of a reply (docs/WIRE.md, Replies): formattings and persons as members. What has its
 -- default, or is absent, has no member.
 use Rattle.std.specs.Prelude.{List, ℕ, Bool, true, false, Option, Some, None, codes, map}
+use Rattle.std.specs.Borrow.{Bor}
 use Rattle.serde_json.specs.Data.{Data, Members, boolean, number, string, unsigned, array, object, no_members, put}
 use Rattle.serde_json.specs.View.{items_of}
 use Rattle.lit_model.specs.Person.{PersonView}
@@ -17,6 +18,10 @@ use Rattle.csl_elements.specs.declared.formatting.VerticalAlign.TheVariants as a
 use Rattle.csl_elements.specs.declared.formatting.Display.{Display}
 use Rattle.csl_elements.specs.declared.formatting.Display.TheVariants as display
 use Rattle.csl_tree.specs.declared.formatting.Formatting.{Formatting}
+
+-- a text that is borrowed
+abbrev pub borrowed : Bor (List ℕ) → List ℕ
+borrowed t = t.now
 
 abbrev pub font_style : FontStyle → Option (List ℕ)
 font_style style.Normal = None

@@ -2,7 +2,7 @@
 //! Definitions: specs/Members.antt.
 
 ghost use Rattle.std.specs.Prelude.{◌≡◌, OnOk, option_map};
-ghost use Rattle.serde_json.specs.Data.{number, string, unsigned, put as with_member};
+ghost use Rattle.serde_json.specs.Data.{number as a_number, string, unsigned, put as with_member};
 ghost use Rattle.serde_json.specs.View.{view, members_view};
 ghost use Rattle.csl_wire_reply.specs.Members as spec;
 
@@ -46,7 +46,7 @@ pub fn put_number(
     number: u64,
 ) -> Result<(), Memory>
     ensures { OnOk result (members_view members.new.entries
-        ≡ with_member name.now (number (unsigned number)) (members_view members.old.entries)) }
+        ≡ with_member name.now (a_number (unsigned number)) (members_view members.old.entries)) }
 {
     put(alloc, members, name, Value::from(number))
 }
@@ -59,7 +59,7 @@ pub(crate) fn put_text_if(
     text: Option<&str>,
 ) -> Result<(), Memory>
     ensures { OnOk result (members_view members.new.entries
-        ≡ spec.put_if name.now (option_map (λ t. t.now) text) (members_view members.old.entries)) }
+        ≡ spec.put_if name.now (option_map spec.borrowed text) (members_view members.old.entries)) }
 {
     match text {
         Some(text) => put_text(alloc, members, name, text),
