@@ -66,7 +66,8 @@ fn limits_value(alloc: Global, limits: SessionLimits) -> Result<Value, Memory> {
     )?;
     put_number(alloc, &mut members, "rendered", limits.room)?;
     put_number(alloc, &mut members, "reply", limits.reply as u64)?;
-    put_number(alloc, &mut members, "kept", limits.kept)?;
+    put_number(alloc, &mut members, "kept-styles", limits.kept_styles)?;
+    put_number(alloc, &mut members, "kept-works", limits.kept_works)?;
     Ok(Value::Object(members))
 }
 

@@ -1,8 +1,8 @@
 //! The requests that keep and forget styles and works.
 
-ghost use Rattle.std.specs.Prelude.{◌≤◌, IfOk};
+ghost use Rattle.std.specs.Prelude.{◌≡◌, OnErr};
 
-use crate::kept::Shelf;
+use crate::kept::{Refused, Shelf};
 use crate::limits::SessionLimits;
 use crate::replies::outcome_value;
 use crate::session::Session;
@@ -34,11 +34,12 @@ fn style_within(alloc: Global, value: &Value, limits: SessionLimits) -> Result<S
     }
 }
 
-/// The first macro that a style calls and does not define, or `null`.
-fn missing_macro_value(alloc: Global, style: &Style) -> Result<Value, Memory> {
+/// The answer to a request that keeps a style: the first macro that it calls and does not define, or
+/// `null`.
+fn style_answer(alloc: Global, style: &Style) -> Result<Value, Memory> {
     match style.missing_macro() {
-        Some(name) => Ok(Value::String(String::from_str(alloc, name)?)),
-        None => Ok(Value::Null),
+        Some(name) => Ok(json!(in alloc; {"missing-macro": name})?),
+        None => Ok(json!(in alloc; {"missing-macro": null})?),
     }
 }
 
@@ -48,51 +49,58 @@ fn text_bytes(alloc: Global, value: &Value) -> Result<u64, Memory> {
     Ok(text.len() as u64)
 }
 
-/// Forgets the values of these names. Returns how many there were, and the bytes of their texts.
-fn forget<T: Drop>(
-    reader: Reader,
-    shelf: &mut Shelf<T>,
-    names: &[Value],
-) -> Result<(u64, u64), WireError> {
-    let (mut count, mut bytes): (u64, u64) = (0, 0);
-    for (place, name) in names.iter().enumerate() {
-        let name = within(Step::Item(place), word_of(reader, name))?;
-        if let Some(freed) = shelf.remove(name) {
+/// The names that a list has.
+fn names_of(reader: Reader, items: &[Value]) -> Result<Vec<&str>, WireError> {
+    let mut names = Vec::with_capacity(reader.alloc, items.len())?;
+    for (place, item) in items.iter().enumerate() {
+        names.push(within(Step::Item(place), word_of(reader, item))?)?;
+    }
+    Ok(names)
+}
+
+/// The names of a member that is a list.
+fn named_in<'v>(form: Form<'v>, member: &'static str) -> Result<Vec<&'v str>, WireError> {
+    let items = form.items(member)?;
+    within(Step::Member(member), names_of(form.reader, items))
+}
+
+/// Forgets the values of these names, and returns how many there were.
+fn forget<T: Drop>(shelf: &mut Shelf<T>, names: &[&str]) -> u64 {
+    let mut count: u64 = 0;
+    for name in names {
+        if shelf.remove(*name) {
             count = count.saturating_add(1);
-            bytes = bytes.saturating_add(freed);
         }
     }
-    Ok((count, bytes))
+    count
+}
+
+/// Why a value is not kept.
+fn refusal_of(alloc: Global, refused: Refused) -> WireError {
+    match refused {
+        Refused::Memory => WireError::Memory,
+        Refused::Full => WireError::of(alloc, Code::Full, "no more can be kept"),
+    }
 }
 
 impl Session {
-    /// The bytes of all that is kept, once so many bytes are kept in the place of these.
-    fn kept_with(&self, alloc: Global, before: u64, after: u64) -> Result<u64, WireError>
-        ensures { IfOk result (λ kept. kept ≤ self.now.limits.kept) }
+    /// Keeps a style. If that is refused, all styles are as they were.
+    pub(crate) fn keep_style(&mut self, form: Form<'_>) -> Result<Value, WireError>
+        ensures { OnErr result (self.new.styles.kept.entries ≡ self.old.styles.kept.entries) }
     {
-        match self.kept.saturating_sub(before).checked_add(after) {
-            Some(kept) if kept <= self.limits.kept => Ok(kept),
-            _ => Err(WireError::of(alloc, Code::Full, "no more can be kept")),
-        }
-    }
-
-    /// Keeps a style.
-    pub(crate) fn keep_style(&mut self, form: Form<'_>) -> Result<Value, WireError> {
         let alloc = form.reader.alloc;
         let name = form.one_text("name")?;
         let Some(value) = form.member("style") else {
             return Err(form.missing("style"));
         };
         let bytes = text_bytes(alloc, value)?;
-        let kept = self.kept_with(alloc, self.styles.bytes_of(name.as_str()), bytes)?;
         let read = style_within(alloc, value, self.limits);
         let style = within(Step::Member("style"), read)?;
-        match missing_macro_value(alloc, &style) {
-            Ok(missing) => {
-                self.styles.put(name, style, bytes)?;
-                self.kept = kept;
-                Ok(json!(in alloc; {"missing-macro": missing})?)
-            }
+        match style_answer(alloc, &style) {
+            Ok(answer) => match self.styles.put(name, style, bytes) {
+                Ok(()) => Ok(answer),
+                Err(refused) => Err(refusal_of(alloc, refused)),
+            },
             Err(_) => {
                 drop(style);
                 Err(WireError::Memory)
@@ -100,20 +108,22 @@ impl Session {
         }
     }
 
-    /// Keeps a work.
-    fn keep_work(&mut self, reader: Reader, value: &Value) -> Result<Value, WireError> {
+    /// Keeps a work. If that is refused, all works are as they were.
+    fn keep_work(&mut self, reader: Reader, value: &Value) -> Result<Value, WireError>
+        ensures { OnErr result (self.new.works.kept.entries ≡ self.old.works.kept.entries) }
+    {
         let form = Form::of(reader, value, &[&["name", "work"]])?;
         let name = form.one_text("name")?;
         let Some(value) = form.member("work") else {
             return Err(form.missing("work"));
         };
         let bytes = text_bytes(reader.alloc, value)?;
-        let kept = self.kept_with(reader.alloc, self.works.bytes_of(name.as_str()), bytes)?;
         let read = entry_of(reader.alloc, value, self.limits.work);
         let work = within(Step::Member("work"), read)?;
-        self.works.put(name, work, bytes)?;
-        self.kept = kept;
-        Ok(Value::Object(Map::new(reader.alloc)))
+        match self.works.put(name, work, bytes) {
+            Ok(()) => Ok(Value::Object(Map::new(reader.alloc))),
+            Err(refused) => Err(refusal_of(reader.alloc, refused)),
+        }
     }
 
     /// Keeps works, each with an outcome of its own.
@@ -129,26 +139,12 @@ impl Session {
         Ok(Value::Array(outcomes))
     }
 
-    /// Forgets the styles of these names, and returns how many there were.
-    fn drop_styles(&mut self, reader: Reader, names: &[Value]) -> Result<u64, WireError> {
-        let (count, bytes) = forget(reader, &mut self.styles, names)?;
-        self.kept = self.kept.saturating_sub(bytes);
-        Ok(count)
-    }
-
-    /// Forgets the works of these names, and returns how many there were.
-    fn drop_works(&mut self, reader: Reader, names: &[Value]) -> Result<u64, WireError> {
-        let (count, bytes) = forget(reader, &mut self.works, names)?;
-        self.kept = self.kept.saturating_sub(bytes);
-        Ok(count)
-    }
-
-    /// Forgets styles and works.
+    /// Forgets styles and works, or none of them if the request is refused.
     pub(crate) fn drop_named(&mut self, form: Form<'_>) -> Result<Value, WireError> {
-        let names = form.items("styles")?;
-        let styles = within(Step::Member("styles"), self.drop_styles(form.reader, names))?;
-        let names = form.items("works")?;
-        let works = within(Step::Member("works"), self.drop_works(form.reader, names))?;
+        let styles = named_in(form, "styles")?;
+        let works = named_in(form, "works")?;
+        let styles = forget(&mut self.styles, styles.as_slice());
+        let works = forget(&mut self.works, works.as_slice());
         Ok(json!(in form.reader.alloc; {"styles": styles, "works": works})?)
     }
 }

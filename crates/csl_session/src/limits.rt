@@ -27,8 +27,10 @@ pub struct SessionLimits {
     pub room: u64,
     /// The most bytes of a reply that is no refusal.
     pub reply: usize,
-    /// The most bytes of all that is kept, as JSON texts without spaces.
-    pub kept: u64,
+    /// The most bytes of all styles that are kept, as JSON texts without spaces.
+    pub kept_styles: u64,
+    /// The most bytes of all works that are kept, likewise.
+    pub kept_works: u64,
 }
 
 impl SessionLimits {
@@ -44,7 +46,8 @@ impl SessionLimits {
             work: WorkLimits::of_strangers(),
             room: 4_000_000,
             reply: 16_000_000,
-            kept: 32_000_000,
+            kept_styles: 16_000_000,
+            kept_works: 32_000_000,
         }
     }
 
@@ -56,7 +59,8 @@ impl SessionLimits {
             work: WorkLimits::none(),
             room: u64::MAX,
             reply: usize::MAX,
-            kept: u64::MAX,
+            kept_styles: u64::MAX,
+            kept_works: u64::MAX,
         }
     }
 }

@@ -1,7 +1,7 @@
 //! A session: what is kept, and the reply to each request.
 //! Definitions: specs/Replies.antt.
 
-ghost use Rattle.std.specs.Prelude.{◌≡◌, ◌≤◌, Some, IfOk, string_bytes};
+ghost use Rattle.std.specs.Prelude.{◌≡◌, Some, IfOk, string_bytes};
 ghost use Rattle.std.specs.Str.{IsUtf8};
 ghost use Rattle.serde_json.specs.Data.{Data};
 ghost use Rattle.serde_json.specs.Read.{read};
@@ -29,9 +29,6 @@ pub struct Session {
     pub(crate) limits: SessionLimits,
     pub(crate) styles: Shelf<Style>,
     pub(crate) works: Shelf<WireEntry>,
-    /// The bytes of the texts of all that is kept.
-    pub(crate) kept: u64,
-    ghost bounded: { kept ≤ limits.kept },
 }
 
 /// The scopes of sort keys.
@@ -50,9 +47,8 @@ impl Session {
     pub fn new(alloc: Global, limits: SessionLimits) -> Session {
         Session {
             limits,
-            styles: Shelf::new(alloc),
-            works: Shelf::new(alloc),
-            kept: 0,
+            styles: Shelf::new(alloc, limits.kept_styles),
+            works: Shelf::new(alloc, limits.kept_works),
         }
     }
 

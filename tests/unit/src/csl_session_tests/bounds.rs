@@ -10,21 +10,29 @@ const CITE: &str = r#"{"op":"cite","style":"ad","cites":[{"work":"kwan"}],"forma
 #[test]
 fn what_is_kept_is_bounded(rt: HostRuntime) -> Result<(), Fail> {
     let alloc = rt.alloc();
-    // The two works `{}` and the longer one have 2, 2 and 20 bytes.
+    // The works have 20, 2 and 2 bytes.
     let limits = SessionLimits {
-        kept: 22,
+        kept_styles: 10,
+        kept_works: 22,
         ..SessionLimits::of_strangers()
     };
     let mut session = Session::new(alloc, limits);
-    let works =
-        r#"{"op":"works","works":[{"name":"a","work":{"key":"0123456789"}},{"name":"b","work":{}},{"name":"c","work":{}}]}"#;
-    let wanted =
-        r#"{"id":null,"ok":[{"ok":{}},{"ok":{}},{"error":{"at":"/works/2","code":"full","message":"no more can be kept"}}]}"#;
+    let works = r#"{"op":"works","works":[{"name":"a","work":{"key":"0123456789"}},{"name":"b","work":{}},{"name":"c","work":{}}]}"#;
+    let wanted = r#"{"id":null,"ok":[{"ok":{}},{"ok":{}},{"error":{"at":"/works/2","code":"full","message":"no more can be kept"}}]}"#;
     assert_reply(&rt, alloc, &mut session, works, wanted);
     // What a value takes the place of no longer counts.
+    assert_reply(&rt, alloc, &mut session, works, wanted);
     let works = r#"{"op":"works","works":[{"name":"a","work":{}},{"name":"c","work":{}}]}"#;
     let wanted = r#"{"id":null,"ok":[{"ok":{}},{"ok":{}}]}"#;
     assert_reply(&rt, alloc, &mut session, works, wanted);
+    // Nor does what is forgotten. The three works have 6 bytes.
+    let works = r#"{"op":"works","works":[{"name":"d","work":{"key":"0123456789"}}]}"#;
+    let full = r#"{"id":null,"ok":[{"error":{"at":"/works/0","code":"full","message":"no more can be kept"}}]}"#;
+    assert_reply(&rt, alloc, &mut session, works, full);
+    let forget = r#"{"op":"drop","works":["a","b"]}"#;
+    let forgotten = r#"{"id":null,"ok":{"styles":0,"works":2}}"#;
+    assert_reply(&rt, alloc, &mut session, forget, forgotten);
+    assert_reply(&rt, alloc, &mut session, works, r#"{"id":null,"ok":[{"ok":{}}]}"#);
     let refused = r#"{"error":{"at":"","code":"full","message":"no more can be kept"},"id":0}"#;
     assert_reply(&rt, alloc, &mut session, STYLE, refused);
     Ok(())
