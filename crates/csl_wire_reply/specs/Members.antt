@@ -53,12 +53,12 @@ display_name display.RightInline = codes "right-inline"
 display_name display.Indent = codes "indent"
 
 -- the members, with a text if there is one
-abbrev pub put_if : List ℕ → Option (List ℕ) → Members → Members
+unfoldable pub put_if : List ℕ → Option (List ℕ) → Members → Members
 put_if name None ms = ms
 put_if name (Some t) ms = put name (string t) ms
 
 -- the members, with `true` if it is
-abbrev pub put_flag : List ℕ → Bool → Members → Members
+unfoldable pub put_flag : List ℕ → Bool → Members → Members
 put_flag name false ms = ms
 put_flag name true ms = put name (boolean true) ms
 

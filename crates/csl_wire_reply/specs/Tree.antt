@@ -34,7 +34,7 @@ kind_name (of_entry n) = codes "entry"
 kind_name of_citation_label = codes "citation-label"
 
 -- the members, with what a kind has more
-abbrev pub put_detail : Meta → Members → Members
+unfoldable pub put_detail : Meta → Members → Members
 put_detail (of_names ns) ms = put (codes "names") (array (items_of (map names_data ns))) ms
 put_detail of_date ms = ms
 put_detail of_text ms = ms
@@ -48,11 +48,11 @@ put_detail of_citation_label ms = ms
 abbrev pub meta_data : Meta → Data
 meta_data m = object (put_detail m (put (codes "kind") (string (kind_name m)) no_members))
 
-abbrev pub put_display : Option Display → Members → Members
+unfoldable pub put_display : Option Display → Members → Members
 put_display None ms = ms
 put_display (Some d) ms = put (codes "display") (string (display_name d)) ms
 
-abbrev pub put_meta : Option Meta → Members → Members
+unfoldable pub put_meta : Option Meta → Members → Members
 put_meta None ms = ms
 put_meta (Some m) ms = put (codes "meta") (meta_data m) ms
 

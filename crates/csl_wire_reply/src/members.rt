@@ -52,6 +52,7 @@ pub fn put_number(
 }
 
 /// Sets a member to a text, if there is one.
+#[tactic(auto, unfolding(crate::specs::Members::put_if))]
 pub(crate) fn put_text_if(
     alloc: Global,
     members: &mut Map<String, Value>,
@@ -61,8 +62,25 @@ pub(crate) fn put_text_if(
     ensures { OnOk result (members_view members.new.entries
         ≡ spec.put_if name.now (option_map spec.borrowed text.entry) (members_view members.old.entries)) }
 {
-    match text {
-        Some(text) => put_text(alloc, members, name, text),
-        None => Ok(()),
+    if let Some(text) = text {
+        put_text(alloc, members, name, text)?;
     }
+    Ok(())
+}
+
+/// Sets a member to `true`, if it is.
+#[tactic(auto, unfolding(crate::specs::Members::put_flag))]
+pub(crate) fn put_flag(
+    alloc: Global,
+    members: &mut Map<String, Value>,
+    name: &str,
+    flag: bool,
+) -> Result<(), Memory>
+    ensures { OnOk result (members_view members.new.entries
+        ≡ spec.put_flag name.now flag (members_view members.old.entries)) }
+{
+    if flag {
+        put(alloc, members, name, Value::Bool(true))?;
+    }
+    Ok(())
 }

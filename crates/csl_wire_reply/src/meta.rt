@@ -5,11 +5,11 @@ ghost use Rattle.std.specs.Prelude.{◌≡◌, IfOk, OnOk, map, option_map, stri
 ghost use Rattle.serde_json.specs.Data.{array};
 ghost use Rattle.serde_json.specs.View.{items_of, view, members_view};
 ghost use Rattle.lit_model.specs.Person.{person_view};
-ghost use Rattle.csl_tree.specs.Tokens.{meta_of, names_of};
+ghost use Rattle.csl_tree.specs.Tokens.{meta_of, names_of, optional_meta};
 ghost use Rattle.csl_wire_reply.specs.Members.{person_data};
 ghost use Rattle.csl_wire_reply.specs.Tree as spec;
 
-use crate::members::{put, put_number, put_text, put_text_if};
+use crate::members::{put, put_flag, put_number, put_text, put_text_if};
 use csl_elements::NameVariable;
 use csl_tree::ElemMeta;
 use lit_model::{Memory, Person};
@@ -36,9 +36,7 @@ fn person_value(alloc: Global, person: &Person) -> Result<Value, Memory>
     put_text_if(alloc, &mut members, "prefix", borrowed(&person.prefix))?;
     put_text_if(alloc, &mut members, "suffix", borrowed(&person.suffix))?;
     put_text_if(alloc, &mut members, "alias", borrowed(&person.alias))?;
-    if person.comma_suffix {
-        put(alloc, &mut members, "comma-suffix", Value::Bool(true))?;
-    }
+    put_flag(alloc, &mut members, "comma-suffix", person.comma_suffix)?;
     Ok(Value::Object(members))
 }
 
@@ -94,28 +92,63 @@ fn kind_name(meta: &ElemMeta) -> &'static str
     }
 }
 
-/// A kind, as an object.
-pub(crate) fn meta_value(alloc: Global, meta: &ElemMeta) -> Result<Value, Memory>
-    ensures { IfOk result (λ v. view v ≡ spec.meta_data (meta_of meta.now)) }
+/// Sets the members that a kind has more than its name.
+#[tactic(auto, unfolding(crate::specs::Tree::put_detail))]
+fn put_detail(
+    alloc: Global,
+    members: &mut Map<String, Value>,
+    meta: &ElemMeta,
+) -> Result<(), Memory>
+    ensures { OnOk result (members_view members.new.entries
+        ≡ spec.put_detail (meta_of meta.now) (members_view members.old.entries)) }
 {
-    let mut members = Map::new(alloc);
-    put_text(alloc, &mut members, "kind", kind_name(meta))?;
     match meta {
         ElemMeta::Names(names) => {
             let names = names_value(alloc, names.as_slice())?;
-            put(alloc, &mut members, "names", names)?;
+            put(alloc, members, "names", names)?;
+            Ok(())
         }
         ElemMeta::Name(variable, index) => {
-            put_text(alloc, &mut members, "variable", variable.name())?;
-            put_number(alloc, &mut members, "index", *index as u64)?;
+            put_text(alloc, members, "variable", variable.name())?;
+            put_number(alloc, members, "index", *index as u64)?;
+            Ok(())
         }
-        ElemMeta::Entry(index) => put_number(alloc, &mut members, "index", *index as u64)?,
+        ElemMeta::Entry(index) => {
+            put_number(alloc, members, "index", *index as u64)?;
+            Ok(())
+        }
         ElemMeta::Date
         | ElemMeta::Text
         | ElemMeta::Number
         | ElemMeta::Label
         | ElemMeta::CitationNumber
-        | ElemMeta::CitationLabel => {}
+        | ElemMeta::CitationLabel => Ok(()),
     }
+}
+
+/// A kind, as an object.
+fn meta_value(alloc: Global, meta: &ElemMeta) -> Result<Value, Memory>
+    ensures { IfOk result (λ v. view v ≡ spec.meta_data (meta_of meta.now)) }
+{
+    let mut members = Map::new(alloc);
+    put_text(alloc, &mut members, "kind", kind_name(meta))?;
+    put_detail(alloc, &mut members, meta)?;
     Ok(Value::Object(members))
+}
+
+/// Sets a member to a kind, if there is one.
+#[tactic(auto, unfolding(crate::specs::Tree::put_meta))]
+pub(crate) fn put_meta(
+    alloc: Global,
+    members: &mut Map<String, Value>,
+    meta: &Option<ElemMeta>,
+) -> Result<(), Memory>
+    ensures { OnOk result (members_view members.new.entries
+        ≡ spec.put_meta (optional_meta meta.now) (members_view members.old.entries)) }
+{
+    if let Some(meta) = meta {
+        let meta = meta_value(alloc, meta)?;
+        put(alloc, members, "meta", meta)?;
+    }
+    Ok(())
 }

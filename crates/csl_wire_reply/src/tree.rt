@@ -9,8 +9,9 @@ ghost use Rattle.csl_wire_reply.specs.Members as members_spec;
 ghost use Rattle.csl_wire_reply.specs.Tree as spec;
 
 use crate::members::{put, put_number, put_text, put_text_if};
-use crate::meta::meta_value;
+use crate::meta::put_meta;
 use crate::names;
+use csl_elements::Display;
 use csl_tree::{Elem, ElemChild, ElemChildren, Formatted, Formatting};
 use csl_wire::{Code, WireError};
 use lit_model::Memory;
@@ -35,7 +36,8 @@ fn put_formatting(
     let decoration = names::text_decoration(formatting.text_decoration);
     put_text_if(alloc, members, "text-decoration", decoration)?;
     let align = names::vertical_align(formatting.vertical_align);
-    put_text_if(alloc, members, "vertical-align", align)
+    put_text_if(alloc, members, "vertical-align", align)?;
+    Ok(())
 }
 
 /// The members of a text.
@@ -78,6 +80,22 @@ fn place_value(alloc: Global, cite: usize, formatting: Formatting) -> Result<Val
     Ok(Value::Object(members))
 }
 
+/// Sets the member of a display, if there is one.
+#[tactic(auto, unfolding(crate::specs::Tree::put_display))]
+fn put_display(
+    alloc: Global,
+    members: &mut Map<String, Value>,
+    display: Option<Display>,
+) -> Result<(), Memory>
+    ensures { OnOk result (members_view members.new.entries
+        ≡ spec.put_display display (members_view members.old.entries)) }
+{
+    if let Some(display) = display {
+        put_text(alloc, members, "display", names::display(display))?;
+    }
+    Ok(())
+}
+
 /// An element around children that were made.
 fn elem_value(alloc: Global, elem: &Elem, children: Value) -> Result<Value, Memory>
     ensures { IfOk result (λ v. view v ≡ spec.elem_data (out-Elem elem.now).display
@@ -85,13 +103,8 @@ fn elem_value(alloc: Global, elem: &Elem, children: Value) -> Result<Value, Memo
 {
     let mut members = Map::new(alloc);
     put(alloc, &mut members, "children", children)?;
-    if let Some(display) = elem.display {
-        put_text(alloc, &mut members, "display", names::display(display))?;
-    }
-    if let Some(meta) = &elem.meta {
-        let meta = meta_value(alloc, meta)?;
-        put(alloc, &mut members, "meta", meta)?;
-    }
+    put_display(alloc, &mut members, elem.display)?;
+    put_meta(alloc, &mut members, &elem.meta)?;
     Ok(Value::Object(members))
 }
 
