@@ -1,5 +1,5 @@
 -- The bytes of all entries, as one of them comes or goes.
-use Rattle.std.proofs.Common.{rules, ℕ, suc, ◌+◌, ◌≡◌, ◌≤◌, ◌∷◌, [], Bool, true, false, List, length, sym, ap, ◌∙◌, arith}
+use Rattle.std.proofs.Common.{rules, refl, ℕ, suc, ◌+◌, ◌≡◌, ◌≤◌, ◌∷◌, [], Bool, true, false, List, length, sym, ap, ◌∙◌, arith}
 use Rattle.std.specs.Prelude.{Option, Some, None, IsSome, is_some, String, cond, if◌then◌else◌}
 use Rattle.std.specs.Ordering.{match_ordering, is_eq}
 use Rattle.std.specs.declared.cmp.Ordering.{Ordering}
@@ -23,7 +23,7 @@ bytes_without test (e ∷ es) = drop_step e es (remove_entry test es) (lookup te
 
 put_step : {T : Type 0} (k : String Global) (v : Kept T) (e : Entry T) (es more : List (Entry T)) (o : Option (Kept T)) (r : Ordering) → ((IsSome o → length more ≡ length es) → entries_bytes more + bytes_if o ≡ entries_bytes es + v.bytes) → (IsSome (cond (is_eq r) (Some e.1) o) → length (match_ordering r ((k, v) ∷ e ∷ es) ((e.0, v) ∷ es) (e ∷ more)) ≡ length (e ∷ es)) → entries_bytes (match_ordering r ((k, v) ∷ e ∷ es) ((e.0, v) ∷ es) (e ∷ more)) + bytes_if (cond (is_eq r) (Some e.1) o) ≡ entries_bytes (e ∷ es) + v.bytes
 put_step k v e es more None Less h l = omega arith
-put_step k v e es more (Some w) Less h l = let p : suc (suc (length es)) ≡ suc (length es) = l tt in let no : ⊥ = omega arith in absurd no
+put_step k v e es more (Some w) Less h l = let p : suc (suc (length es)) ≡ suc (length es) = l refl in let no : ⊥ = omega arith in absurd no
 put_step k v e es more o Equal h l = omega arith
 put_step k v e es more o Greater h l = let q : entries_bytes more + bytes_if o ≡ entries_bytes es + v.bytes = h (λ s. let p : suc (length more) ≡ suc (length es) = l s in let r : length more ≡ length es = omega arith in r) in omega arith
 
