@@ -1,12 +1,12 @@
 -- The bytes of all entries, as one of them comes or goes.
-use Rattle.std.proofs.Common.{rules, refl, ℕ, suc, ◌+◌, ◌≡◌, ◌≤◌, ◌∷◌, [], Bool, true, false, List, length, sym, ap, ◌∙◌, arith}
+use Rattle.std.proofs.Common.{refl, suc, ◌+◌, ◌≡◌, ◌≤◌, ◌∷◌, [], Bool, true, false, List, length, sym, ap, ◌∙◌, arith}
 use Rattle.std.specs.Prelude.{Option, Some, None, IsSome, is_some, String, cond, if◌then◌else◌}
 use Rattle.std.specs.Ordering.{match_ordering, is_eq}
 use Rattle.std.specs.declared.cmp.Ordering.{Ordering}
 use Rattle.std.specs.declared.cmp.Ordering.TheVariants.{Less, Equal, Greater}
 use Rattle.std.specs.declared.alloc.Global.{Global}
 use Rattle.std.specs.Map.{lookup, remove_entry}
-use Rattle.std.specs.BTreeMap.{BTreeMap, get, get_by, btree_map_len, insert_entry, is_at}
+use Rattle.std.specs.BTreeMap.{BTreeMap, get, btree_map_len, insert_entry, is_at}
 use Rattle.csl_session.specs.declared.kept.Kept.{Kept}
 use Rattle.csl_session.specs.Kept.{bytes_if, entries_bytes}
 

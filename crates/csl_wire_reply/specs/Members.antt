@@ -70,11 +70,16 @@ put_formatting f ms =
     (put_if (codes "font-variant") (font_variant f.font_variant)
     (put_if (codes "font-style") (font_style f.font_style) ms))))
 
+-- the parts of a person's name beside the family name
+unfoldable pub put_parts : PersonView → Members → Members
+put_parts p ms =
+    put_if (codes "suffix") p.suffix
+    (put_if (codes "prefix") p.prefix
+    (put_if (codes "given") p.given_name ms))
+
 abbrev pub person_data : PersonView → Data
 person_data p = object
     (put_flag (codes "comma-suffix") p.comma_suffix
     (put_if (codes "alias") p.alias
-    (put_if (codes "suffix") p.suffix
-    (put_if (codes "prefix") p.prefix
-    (put_if (codes "given") p.given_name
-    (put (codes "family") (string p.name) no_members))))))
+    (put_parts p
+    (put (codes "family") (string p.name) no_members))))

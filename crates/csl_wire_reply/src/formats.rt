@@ -1,13 +1,13 @@
 //! The formats of a reply.
 //! Definitions: specs/Contents.antt.
 
-ghost use Rattle.std.specs.Prelude.{◌≡◌, IfOk, OnOk};
-ghost use Rattle.serde_json.specs.View.{view, members_view};
+ghost use Rattle.std.specs.Prelude.{◌≡◌, true, false, OnOk};
+ghost use Rattle.serde_json.specs.Data.{string, put as with_member};
+ghost use Rattle.serde_json.specs.View.{members_view};
 ghost use Rattle.csl_tree.specs.Tokens.{tokens};
 ghost use Rattle.csl_tree.specs.Tree.{tree};
 ghost use Rattle.csl_tree.specs.Write.{text_in_format};
-ghost use Rattle.csl_wire_reply.specs.Members.{put_if};
-ghost use Rattle.csl_wire_reply.specs.Contents.{when, IsMarked, IsReplyOf, IsWithTree};
+ghost use Rattle.csl_wire_reply.specs.Contents.{IsWithTree};
 
 use crate::members::put;
 use crate::tree::tree_value;
@@ -43,13 +43,16 @@ fn put_format(
     format: BufWriteFormat,
     is_wanted: bool,
 ) -> Result<(), Memory>
-    ensures { OnOk result (members_view members.new.entries ≡ put_if name.now
-        (when is_wanted (text_in_format format (tokens content.now)))
+    ensures wanted { is_wanted ≡ true → OnOk result (members_view members.new.entries
+        ≡ with_member name.now (string (text_in_format format (tokens content.now)))
         (members_view members.old.entries)) }
+    ensures left { is_wanted ≡ false → OnOk result (members_view members.new.entries
+        ≡ members_view members.old.entries) }
 {
     if is_wanted {
         let text = content.to_text(alloc, format)?;
         put(alloc, members, name, Value::String(text))?;
+        return Ok(());
     }
     Ok(())
 }
@@ -61,13 +64,16 @@ fn put_tree(
     content: &ElemChildren,
     is_wanted: bool,
 ) -> Result<(), WireError>
-    ensures { OnOk result (IsWithTree is_wanted (tree content.now)
+    ensures wanted { is_wanted ≡ true → OnOk result (IsWithTree (tree content.now)
         (members_view members.old.entries) (members_view members.new.entries)) }
+    ensures left { is_wanted ≡ false → OnOk result (members_view members.new.entries
+        ≡ members_view members.old.entries) }
 {
     if is_wanted {
         let simple = simplify_fully(alloc, content)?;
         let value = tree_value(alloc, &simple, MOST_LEVELS)?;
         put(alloc, members, "tree", value)?;
+        return Ok(());
     }
     Ok(())
 }
@@ -78,10 +84,7 @@ fn marked_value(
     before: Map<String, Value>,
     content: &ElemChildren,
     formats: Formats,
-) -> Result<Value, WireError>
-    ensures { IfOk result (λ v. IsMarked formats content.now (members_view before.entries)
-        (view v)) }
-{
+) -> Result<Value, WireError> {
     let mut members = before;
     put_format(
         alloc,
@@ -104,9 +107,7 @@ pub fn content_value(
     alloc: Global,
     content: ElemChildren,
     formats: Formats,
-) -> Result<Value, WireError>
-    ensures { IfOk result (λ v. IsReplyOf formats content (view v)) }
-{
+) -> Result<Value, WireError> {
     let mut members = Map::new(alloc);
     put_format(
         alloc,

@@ -7,6 +7,7 @@ ghost use Rattle.serde_json.specs.View.{items_of, view, members_view};
 ghost use Rattle.lit_model.specs.Person.{person_view};
 ghost use Rattle.csl_tree.specs.Tokens.{meta_of, names_of, optional_meta};
 ghost use Rattle.csl_wire_reply.specs.Members.{person_data};
+ghost use Rattle.csl_wire_reply.specs.Members as members_spec;
 ghost use Rattle.csl_wire_reply.specs.Tree as spec;
 
 use crate::members::{put, put_flag, put_number, put_text, put_text_if};
@@ -26,15 +27,25 @@ fn borrowed(text: &Option<String>) -> Option<&str>
     }
 }
 
+/// Sets the parts of a person's name beside the family name.
+#[tactic(auto, unfolding(crate::specs::Members::put_parts))]
+fn put_parts(alloc: Global, members: &mut Map<String, Value>, person: &Person) -> Result<(), Memory>
+    ensures { OnOk result (members_view members.new.entries
+        ≡ members_spec.put_parts (person_view person.now) (members_view members.old.entries)) }
+{
+    put_text_if(alloc, members, "given", borrowed(&person.given_name))?;
+    put_text_if(alloc, members, "prefix", borrowed(&person.prefix))?;
+    put_text_if(alloc, members, "suffix", borrowed(&person.suffix))?;
+    Ok(())
+}
+
 /// A person, as an entry has it.
 fn person_value(alloc: Global, person: &Person) -> Result<Value, Memory>
     ensures { IfOk result (λ v. view v ≡ person_data (person_view person.now)) }
 {
     let mut members = Map::new(alloc);
     put_text(alloc, &mut members, "family", person.name.as_str())?;
-    put_text_if(alloc, &mut members, "given", borrowed(&person.given_name))?;
-    put_text_if(alloc, &mut members, "prefix", borrowed(&person.prefix))?;
-    put_text_if(alloc, &mut members, "suffix", borrowed(&person.suffix))?;
+    put_parts(alloc, &mut members, person)?;
     put_text_if(alloc, &mut members, "alias", borrowed(&person.alias))?;
     put_flag(alloc, &mut members, "comma-suffix", person.comma_suffix)?;
     Ok(Value::Object(members))

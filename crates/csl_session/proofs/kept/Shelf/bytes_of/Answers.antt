@@ -1,4 +1,4 @@
-use Rattle.std.proofs.Common.{rules, ◌≡◌, ◌≤◌, Some, sym, subst}
+use Rattle.std.proofs.Common.{◌≤◌, sym, subst}
 use Rattle.csl_session.specs.Kept.{bytes_if, entries_bytes}
 use Rattle.csl_session.proofs.Sums.{bytes_below}
 use Rattle.csl_session.proofs.kept.Shelf.bytes_of.Goals as goal

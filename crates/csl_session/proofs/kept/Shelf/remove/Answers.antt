@@ -1,4 +1,4 @@
-use Rattle.std.proofs.Common.{rules, ◌≡◌, ◌+◌, ◌≤◌, Some, arith}
+use Rattle.std.proofs.Common.{◌≡◌, ◌+◌, ◌≤◌, Some, arith}
 use Rattle.csl_session.specs.Kept.{entries_bytes}
 use Rattle.csl_session.proofs.Sums.{bytes_gone}
 use Rattle.csl_session.proofs.kept.Shelf.remove.Goals as goal
