@@ -1,13 +1,11 @@
 //! The formats of a reply.
-//! Definitions: specs/Contents.antt.
+//! Definitions: those of csl_tree.
 
 ghost use Rattle.std.specs.Prelude.{◌≡◌, true, false, OnOk};
 ghost use Rattle.serde_json.specs.Data.{string, put as with_member};
 ghost use Rattle.serde_json.specs.View.{members_view};
 ghost use Rattle.csl_tree.specs.Tokens.{tokens};
-ghost use Rattle.csl_tree.specs.Tree.{tree};
 ghost use Rattle.csl_tree.specs.Write.{text_in_format};
-ghost use Rattle.csl_wire_reply.specs.Contents.{IsWithTree};
 
 use crate::members::put;
 use crate::tree::tree_value;
@@ -64,8 +62,6 @@ fn put_tree(
     content: &ElemChildren,
     is_wanted: bool,
 ) -> Result<(), WireError>
-    ensures wanted { is_wanted ≡ true → OnOk result (IsWithTree (tree content.now)
-        (members_view members.old.entries) (members_view members.new.entries)) }
     ensures left { is_wanted ≡ false → OnOk result (members_view members.new.entries
         ≡ members_view members.old.entries) }
 {
