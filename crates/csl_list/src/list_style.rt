@@ -186,8 +186,12 @@ impl ListStyle {
             citation.keys.items (spec.keys_of bibliography)) }
     {
         let keys = keys_of(&bibliography);
-        let (citation_keys, bibliography_keys) =
-            all_checked_keys(alloc, &style, &citation.keys, keys)?;
+        let (citation_keys, bibliography_keys) = all_checked_keys(
+            alloc,
+            &style,
+            &citation.keys,
+            keys,
+        )?;
         Ok(ListStyle {
             style,
             citation,
