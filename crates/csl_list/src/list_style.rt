@@ -121,7 +121,8 @@ fn all_checked_keys(
     citation: &[SortKey],
     bibliography: &[SortKey],
 ) -> Result<(Vec<KeyLayout>, Vec<KeyLayout>), ListStyleError>
-    ensures citation { OnOk result (All (spec.IsKnown (definitions style.now.macros)) citation.now) }
+    ensures citation { OnOk result (All (spec.IsKnown (definitions style.now.macros))
+        citation.now) }
     ensures bibliography { OnOk result (All (spec.IsKnown (definitions style.now.macros))
         bibliography.now) }
     ensures refused { IfErr result (spec.IsRefusal (definitions style.now.macros) citation.now
