@@ -1,0 +1,3 @@
+-- The definitions that the contracts of `csl_wire_reply` cite.
+pub mod Members
+pub mod Tree
