@@ -1,16 +1,18 @@
-"""What the tools that talk to `csl_serve` share: the blocks of docs/HOSTS.md, and a server."""
+"""What the tools that talk to `csl_serve` share: the blocks of docs/HOSTS.md, the program, and a
+server."""
 import contextlib
 import re
 import shutil
 import subprocess
-import tempfile
-from typing import Iterator
+from typing import ContextManager, Iterator
 
 from as_proved import built
-from kit import TOP, read
-from programs import CHECKED
+from kit import TOP, Failure, read
+from programs import CHECKED, Program, Work, teller
+from unproved import compiled
 
 PAGE = f"{TOP}/docs/HOSTS.md"
+CRATE = f"{TOP}/crates/csl_serve"
 
 
 def blocks_of(page: str) -> list[tuple[str, str]]:
@@ -30,17 +32,26 @@ def good_requests() -> tuple[list[str], list[tuple[str, str]]]:
     return requests_of(blocks_of(read(PAGE)))
 
 
-@contextlib.contextmanager
-def program_as_proved(given: str | None) -> Iterator[str]:
-    """The program that is given, or else one that is compiled like a proved one."""
+class AsProved(Program):
+    """A crate's program, compiled like a proved one: with run-time checks a style takes seconds."""
+
+    def built(self, work: Work) -> str:
+        """The program, built from a copy of the sources."""
+        to = f"{work.room}/checkout"
+        shutil.copytree(f"{TOP}/crates", f"{to}/crates", ignore=shutil.ignore_patterns("out"))
+        shutil.copy(f"{TOP}/crates.txt", to)
+        crate = f"{to}/crates/{self.name}"
+        given = compiled(crate, work.room, run=work.run).bitcode
+        if not given:
+            raise Failure("this kit leaves no bitcode")
+        return built(crate, work.room, given=given)
+
+
+def program_ready(tool: str, given: str | None = None) -> ContextManager[str]:
+    """The file of the program that is given, or else of the one that is kept or built."""
     if given:
-        yield given
-        return
-    with tempfile.TemporaryDirectory(prefix="hosts-") as room:
-        shutil.copytree(f"{TOP}/crates", f"{room}/checkout/crates",
-                        ignore=shutil.ignore_patterns("out"))
-        shutil.copy(f"{TOP}/crates.txt", f"{room}/checkout")
-        yield built(f"{room}/checkout/crates/csl_serve", room)
+        return contextlib.nullcontext(given)
+    return AsProved(CRATE, teller(tool), "as-proved").ready()
 
 
 class Server:
@@ -53,8 +64,9 @@ class Server:
     def ask(self, request: bytes) -> bytes:
         """The reply to a request: one line, empty if the server has ended."""
         assert self.process.stdin and self.process.stdout
-        self.process.stdin.write(request + b"\n")
-        self.process.stdin.flush()
+        with contextlib.suppress(BrokenPipeError):
+            self.process.stdin.write(request + b"\n")
+            self.process.stdin.flush()
         return self.process.stdout.readline()
 
     def resident(self) -> int:

@@ -22,6 +22,10 @@ NUMBERS = {"et-al-min", "et-al-use-first", "et-al-subsequent-min", "et-al-subseq
 BOOLEANS = {"et-al-use-last", "initialize", "quotes", "strip-periods", "disambiguate",
             "initialize-with-hyphen", "punctuation-in-quote", "limit-day-ordinals-to-day-1",
             "near-note", "circa", "comma-suffix"}
+OPTIONS_OF_NAMES = {"and", "delimiter-precedes-et-al", "delimiter-precedes-last", "et-al-min",
+                    "et-al-use-first", "et-al-subsequent-min", "et-al-subsequent-use-first",
+                    "et-al-use-last", "initialize", "initialize-with", "name-as-sort-order",
+                    "sort-separator", "name-form", "name-delimiter", "names-delimiter"}
 # What a style has of a locale of its own.
 OF_LOCALE = ("punctuation-in-quote", "limit-day-ordinals-to-day-1")
 PERSON = {"family", "given", "prefix", "suffix", "comma-suffix"}
@@ -86,8 +90,9 @@ def attribute(name: str, value: str, lists: Iterable[str] = ()) -> Json:
 
 
 def attributes(forms: list[Form], lists: Iterable[str] = ()) -> dict[str, Json]:
-    """The attributes among forms."""
-    return {it.name: attribute(it.name, it.inside, lists) for it in forms if it.kind == "attribute"}
+    """The attributes among forms. The first of a name counts."""
+    return {it.name: attribute(it.name, it.inside, lists) for it in reversed(forms)
+            if it.kind == "attribute"}
 
 
 def words(forms: list[Form]) -> list[str]:
@@ -122,6 +127,8 @@ def node_of(name: str, forms: list[Form]) -> Json:
         made["variable"] = words(forms)[0]
     elif name == "date":
         made |= date_of(forms)
+        if "variable" not in made:
+            raise NotInWire("a date without a variable")
     elif name == "group":
         made["children"] = nodes_of(forms)
     elif name == "names":
@@ -177,7 +184,10 @@ def locale_of(forms: list[Form]) -> dict[str, Json]:
             term = {"name": name, "single": texts[0]} | attributes(it.inside)
             made.setdefault("terms", []).append(term | {"multiple": it for it in texts[1:2]})
         elif it.kind == "list" and it.name == "date":
-            made.setdefault("dates", []).append(attributes(it.inside) | date_of(it.inside))
+            date = attributes(it.inside) | date_of(it.inside)
+            if "date-parts" in date:
+                raise NotInWire("a localized date with date-parts")
+            made.setdefault("dates", []).append(date)
     return made
 
 
@@ -237,9 +247,13 @@ def date_value(forms: list[Form]) -> Json:
 def number_value(forms: list[Form]) -> Json:
     """The answer of a number or page variable."""
     made = attributes(forms)
+    if set(made) - {"either"}:
+        raise NotInWire(f"pages by {sorted(made)}")
     if made:
-        raise NotInWire(f"a number by {sorted(made)}")
+        return made["either"]
     if forms and forms[0].kind == "text":
+        if re.search("[0-9]", forms[0].name):
+            raise NotInWire("a text that may be a number, and is none")
         return forms[0].name
     return " ".join(it.name for it in forms)
 
@@ -274,10 +288,11 @@ def cite_of(forms: list[Form]) -> Json:
     made = attributes(forms)
     if set(made) & {"before", "suppressed", "suppressing", "dated", "sort"}:
         raise NotInWire("a cite after others, or to be sorted")
-    if "ibid" in made:
-        made["position"] = made.pop("ibid")
-    elif made.get("position") == "different":
-        del made["position"]
+    ibid = made.pop("ibid", "different")
+    if ibid != "different" and made.get("position") != "subsequent":
+        raise NotInWire("a cite that is ibid, and first")
+    if ibid != "different":
+        made["position"] = ibid
     if "year-suffix" in made:
         made["year-suffix"] = letters_of(int(made["year-suffix"]))
     for it in lists(forms):
@@ -288,6 +303,27 @@ def cite_of(forms: list[Form]) -> Json:
         elif it.name == "shown":
             made["names"] = shown_of(it.inside)
     return made
+
+
+def reaches_suffix(nodes: Json, macros: dict[str, Json]) -> bool:
+    """Whether nodes reach a text of the year suffix, through these macros too."""
+    if isinstance(nodes, dict):
+        called = macros.get(nodes.get("macro", ""), [])
+        return (nodes.get("variable") == "year-suffix" or reaches_suffix(called, macros)
+                or any(reaches_suffix(it, macros) for it in nodes.values()))
+    return isinstance(nodes, list) and any(reaches_suffix(it, macros) for it in nodes)
+
+
+def with_layout(style: Json, scope: str, layout: Json, cite: Json) -> Json:
+    """A style whose layout of the scope is this one. A row's layout is none of its style's, so that
+    those decide whether the first year has the suffix."""
+    macros = {it["name"]: it["children"] for it in style.get("macros", [])}
+    before = style.get(scope, {})
+    if "year-suffix" in cite and \
+            reaches_suffix(layout, macros) != reaches_suffix(before, macros):
+        raise NotInWire("a year suffix, by another layout")
+    kept = {name: value for name, value in before.items() if name in OPTIONS_OF_NAMES}
+    return style | {scope: kept | layout}
 
 
 def letters_of(number: int) -> str:
