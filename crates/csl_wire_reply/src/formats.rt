@@ -1,5 +1,5 @@
 //! The formats of a reply.
-//! Definitions: those of csl_tree.
+//! Definitions: crates/csl_tree/specs/Tokens.antt, crates/csl_tree/specs/Write.antt.
 
 ghost use Rattle.std.specs.Prelude.{◌≡◌, true, false, OnOk};
 ghost use Rattle.serde_json.specs.Data.{string, put as with_member};
