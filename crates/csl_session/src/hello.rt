@@ -51,6 +51,8 @@ fn variables_value(alloc: Global) -> Result<Value, Memory> {
 fn limits_value(alloc: Global, limits: SessionLimits) -> Result<Value, Memory> {
     let mut members = Map::new(alloc);
     put_number(alloc, &mut members, "style-text", limits.read.text as u64)?;
+    put_number(alloc, &mut members, "style-locales", limits.locales as u64)?;
+    put_number(alloc, &mut members, "items", limits.items as u64)?;
     put_number(alloc, &mut members, "work-texts", limits.work.bytes as u64)?;
     put_number(
         alloc,

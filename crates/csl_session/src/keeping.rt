@@ -3,7 +3,7 @@
 ghost use Rattle.std.specs.Prelude.{◌≡◌, OnErr};
 
 use crate::kept::{Refused, Shelf};
-use crate::limits::SessionLimits;
+use crate::limits::{SessionLimits, items_within};
 use crate::replies::outcome_value;
 use crate::session::Session;
 use csl::Style;
@@ -13,8 +13,26 @@ use csl_wire_cite::entry_of;
 use serde_json::{Map, Value, json};
 use std::alloc::Global;
 
+/// What a value that is kept counts, beside the bytes of its text and of its name.
+const BESIDE: u64 = 500;
+
+/// What each locale of a style counts besides: the tag of a language is short, and its locale large.
+const LOCALE: u64 = 64_000;
+
+/// How many locales the value of a style has.
+fn count_of_locales(value: &Value) -> usize {
+    match value.get("locales") {
+        Some(Value::Array(locales)) => locales.len(),
+        _ => 0,
+    }
+}
+
 /// A style within the limits.
 fn style_within(alloc: Global, value: &Value, limits: SessionLimits) -> Result<Style, WireError> {
+    if count_of_locales(value) > limits.locales {
+        let reason = "the style has more locales than are allowed";
+        return Err(WireError::of(alloc, Code::TooLarge, reason));
+    }
     let style = style_of(alloc, value, limits.read)?;
     let is_within = match limits.style {
         Some(most) => style.all_within(alloc, most.rendered, most.size, most.depth),
@@ -43,10 +61,12 @@ fn style_answer(alloc: Global, style: &Style) -> Result<Value, Memory> {
     }
 }
 
-/// The bytes of a value as a text without spaces.
-fn text_bytes(alloc: Global, value: &Value) -> Result<u64, Memory> {
+/// What a value counts that is kept by a name: the bytes of its text without spaces and of the name,
+/// and `BESIDE`.
+fn counted_bytes(alloc: Global, name: &str, value: &Value) -> Result<u64, Memory> {
     let text = value.to_string(alloc)?;
-    Ok(text.len() as u64)
+    let bytes = (text.len() as u64).saturating_add(name.len() as u64);
+    Ok(bytes.saturating_add(BESIDE))
 }
 
 /// The names that a list has.
@@ -93,7 +113,9 @@ impl Session {
         let Some(value) = form.member("style") else {
             return Err(form.missing("style"));
         };
-        let bytes = text_bytes(alloc, value)?;
+        let bytes = counted_bytes(alloc, name.as_str(), value)?;
+        let locales = (count_of_locales(value) as u64).saturating_mul(LOCALE);
+        let bytes = bytes.saturating_add(locales);
         let read = style_within(alloc, value, self.limits);
         let style = within(Step::Member("style"), read)?;
         match style_answer(alloc, &style) {
@@ -117,7 +139,7 @@ impl Session {
         let Some(value) = form.member("work") else {
             return Err(form.missing("work"));
         };
-        let bytes = text_bytes(reader.alloc, value)?;
+        let bytes = counted_bytes(reader.alloc, name.as_str(), value)?;
         let read = entry_of(reader.alloc, value, self.limits.work);
         let work = within(Step::Member("work"), read)?;
         match self.works.put(name, work, bytes) {
@@ -129,7 +151,7 @@ impl Session {
     /// Keeps works, each with an outcome of its own.
     pub(crate) fn keep_works(&mut self, form: Form<'_>) -> Result<Value, WireError> {
         let alloc = form.reader.alloc;
-        let items = form.items("works")?;
+        let items = items_within(form, "works", self.limits.items)?;
         let mut outcomes = Vec::with_capacity(alloc, items.len())?;
         for (place, item) in items.iter().enumerate() {
             let kept = within(Step::Item(place), self.keep_work(form.reader, item));

@@ -10,7 +10,7 @@ ghost use Rattle.csl_session.specs.Replies.{id_of, IsReplyText};
 use crate::asked::formats_of;
 use crate::hello::hello_value;
 use crate::kept::Shelf;
-use crate::limits::SessionLimits;
+use crate::limits::{SessionLimits, items_within};
 use crate::op::{OPS, Op};
 use crate::rendering::{Part, item_of, item_value};
 use crate::replies::{outcome_value, reply_text, value_of_bytes};
@@ -93,7 +93,7 @@ impl Session {
     fn batch(&self, form: Form<'_>, name: &'static str, part: Part) -> Result<Value, WireError> {
         let alloc = form.reader.alloc;
         let style = self.named_style(form)?;
-        let items = form.items(name)?;
+        let items = items_within(form, name, self.limits.items)?;
         let mut renderer = Renderer::new(style).limited(self.limits.room);
         let mut outcomes = Vec::with_capacity(alloc, items.len())?;
         for (place, item) in items.iter().enumerate() {

@@ -10,10 +10,10 @@ const CITE: &str = r#"{"op":"cite","style":"ad","cites":[{"work":"kwan"}],"forma
 #[test]
 fn what_is_kept_is_bounded(rt: HostRuntime) -> Result<(), Fail> {
     let alloc = rt.alloc();
-    // The works have 20, 2 and 2 bytes.
+    // The works have 20, 2 and 2 bytes, and their names 1. Each counts 500 more.
     let limits = SessionLimits {
-        kept_styles: 10,
-        kept_works: 22,
+        kept_styles: 510,
+        kept_works: 1_520,
         ..SessionLimits::of_strangers()
     };
     let mut session = Session::new(alloc, limits);
@@ -25,7 +25,7 @@ fn what_is_kept_is_bounded(rt: HostRuntime) -> Result<(), Fail> {
     let works = r#"{"op":"works","works":[{"name":"a","work":{}},{"name":"c","work":{}}]}"#;
     let wanted = r#"{"id":null,"ok":[{"ok":{}},{"ok":{}}]}"#;
     assert_reply(&rt, alloc, &mut session, works, wanted);
-    // Nor does what is forgotten. The three works have 6 bytes.
+    // Nor does what is forgotten.
     let works = r#"{"op":"works","works":[{"name":"d","work":{"key":"0123456789"}}]}"#;
     let full = r#"{"id":null,"ok":[{"error":{"at":"/works/0","code":"full","message":"no more can be kept"}}]}"#;
     assert_reply(&rt, alloc, &mut session, works, full);
@@ -93,5 +93,28 @@ fn a_style_is_bounded(rt: HostRuntime) -> Result<(), Fail> {
     let mut trusting = Session::new(alloc, SessionLimits::none());
     let kept = r#"{"id":0,"ok":{"missing-macro":null}}"#;
     assert_reply(&rt, alloc, &mut trusting, STYLE, kept);
+    Ok(())
+}
+
+#[test]
+fn locales_and_items_are_bounded(rt: HostRuntime) -> Result<(), Fail> {
+    let alloc = rt.alloc();
+    let limits = SessionLimits {
+        locales: 1,
+        items: 1,
+        ..SessionLimits::of_strangers()
+    };
+    let mut session = Session::new(alloc, limits);
+    let style = r#"{"op":"style","name":"ad","style":{"locales":["en-US","de-DE"]}}"#;
+    let wanted = r#"{"error":{"at":"/style","code":"too-large","message":"the style has more locales than are allowed"},"id":null}"#;
+    assert_reply(&rt, alloc, &mut session, style, wanted);
+    let works = r#"{"op":"works","works":[{},{}]}"#;
+    let wanted = r#"{"error":{"at":"/works","code":"too-large","message":"the request has more items than are allowed"},"id":null}"#;
+    assert_reply(&rt, alloc, &mut session, works, wanted);
+    let kept = r#"{"id":0,"ok":{"missing-macro":null}}"#;
+    assert_reply(&rt, alloc, &mut session, STYLE, kept);
+    let cites = r#"{"op":"cite","style":"ad","cites":[{},{}]}"#;
+    let wanted = r#"{"error":{"at":"/cites","code":"too-large","message":"the request has more items than are allowed"},"id":null}"#;
+    assert_reply(&rt, alloc, &mut session, cites, wanted);
     Ok(())
 }
