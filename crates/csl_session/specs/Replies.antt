@@ -15,10 +15,13 @@ answer_reply id answer = object (member (codes "id") id (member (codes "ok") ans
 abbrev pub error_reply : Data → Data → Data
 error_reply id error = object (member (codes "error") error (member (codes "id") id no_members))
 
--- a reply with this id
-abbrev pub IsReply : Data → Data → Type 0
-IsReply id reply = (d : Data) × ((reply ≡ answer_reply id d) ⊎ (reply ≡ error_reply id d))
+-- a reply with this id: one of an answer and an error
+pub record IsReply (id reply : Data) : Type 0 where
+  pub has : Data
+  pub is : (reply ≡ answer_reply id has) ⊎ (reply ≡ error_reply id has)
 
 -- the text of a reply with this id, which is read as such if it has at most 127 levels
-abbrev pub IsReplyText : Data → List ℕ → Type 0
-IsReplyText id text = (reply : Data) × IsReply id reply × (depth reply ≤ max_depth → read text ≡ Some reply)
+pub record IsReplyText (id : Data) (text : List ℕ) : Type 0 where
+  pub reply : Data
+  pub is : IsReply id reply
+  pub is_read : depth reply ≤ max_depth → read text ≡ Some reply

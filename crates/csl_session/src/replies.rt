@@ -63,15 +63,20 @@ fn reply_value(alloc: Global, id: &Value, answer: Result<Value, WireError>) -> R
     ensures { IfOk result (λ v. IsReply (view id.now) (view v)) }
 {
     match answer {
-        Ok(value) => answer_value(alloc, id, value),
+        Ok(value) => {
+            let reply = answer_value(alloc, id, value)?;
+            Ok(reply)
+        }
         Err(error) => {
             let error = error_value(alloc, error)?;
-            failure_value(alloc, id, error)
+            let reply = failure_value(alloc, id, error)?;
+            Ok(reply)
         }
     }
 }
 
 /// The text of a reply.
+#[tactic(auto, using(crate::proofs::Replied::text_made))]
 fn text_of(alloc: Global, id: &Value, answer: Result<Value, WireError>) -> Result<String, Memory>
     ensures { IfOk result (λ text. IsReplyText (view id.now) (string_bytes text)) }
 {
