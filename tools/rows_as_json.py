@@ -178,7 +178,7 @@ def locale_of(forms: list[Form]) -> dict[str, Json]:
     made: dict[str, Json] = {}
     for it in forms:
         if it.name in OF_LOCALE:
-            made[it.name] = it.inside == "true"
+            made.setdefault(it.name, it.inside == "true")
         elif it.kind == "list" and it.name == "term":
             name, *texts = [part.name for part in it.inside if part.kind in ("word", "text")]
             term = {"name": name, "single": texts[0]} | attributes(it.inside)
