@@ -140,9 +140,9 @@ impl Session {
         self.answer_to(op, form)
     }
 
-    /// The reply to a request, as a JSON text in one line. `{"id": .., "ok": ..}` has an answer, and
-    /// `{"id": .., "error": {"code": .., "at": .., "message": ..}}` says why there is none. The id is
-    /// that of the request, or `null` if it has none.
+    /// The reply to a request, as a JSON text in one line. `{"id": .., "ok": ..}` has an answer,
+    /// and `{"id": .., "error": {"code": .., "at": .., "message": ..}}` says why there is none. The
+    /// id is that of the request, or `null` if it has none.
     pub fn reply(&mut self, alloc: Global, request: &[u8]) -> Result<String, Memory>
         ensures json { (d : Data) → IsUtf8 request.now → read request.now ≡ Some d → IfOk result
             (λ text. IsReplyText (id_of d) (string_bytes text)) }

@@ -147,7 +147,8 @@ fn child_value(alloc: Global, child: &ElemChild, levels: u8) -> Result<Value, Wi
 /// A content as the list of its children.
 ///
 /// # Errors
-/// [`WireError::Refused`], with [`Code::TooDeep`]: more elements than `levels` stand in one another.
+/// [`WireError::Refused`], with [`Code::TooDeep`]: more elements than `levels` stand in one
+/// another.
 #[cycle(values)]
 pub fn tree_value(alloc: Global, content: &ElemChildren, levels: u8) -> Result<Value, WireError>
     ensures { IfOk result (λ v. view v ≡ spec.tree_data content.now) }
