@@ -1,8 +1,8 @@
 //! The program `csl_serve`: it answers requests on standard input, one a line, by replies on
 //! standard output, one a line (docs/HOSTS.md).
 //!
-//! Its status is 0 when the input ends, 2 for words that it does not know, 3 if there is no memory to
-//! begin, 4 if standard output refuses a reply, and 5 if standard input cannot be read.
+//! Its status is 0 when the input ends, 2 for words that it does not know, 3 if there is no memory
+//! to begin, 4 if standard output refuses a reply, and 5 if standard input cannot be read.
 #![tactic(auto)]
 
 use csl_session::{Ending, Session, SessionLimits, serve};

@@ -1,5 +1,5 @@
 -- Replies, by what they have.
-use Rattle.std.proofs.Common.{ℕ, List, ◌≡◌, ◌≤◌, ◌⊎◌, inl, inr, Some}
+use Rattle.std.proofs.Common.{ℕ, List, ◌≡◌, ◌≤◌, inl, inr, Some}
 use Rattle.serde_json.specs.Data.{Data, depth}
 use Rattle.serde_json.specs.Read.{read, max_depth}
 use Rattle.csl_session.specs.Replies.{answer_reply, error_reply, IsReply, IsReplyText}

@@ -7,7 +7,8 @@ use lit_model::Memory;
 use serde_json::{Map, Value};
 use std::alloc::Global;
 
-/// The protocol of requests and replies. It changes if a request that was answered is read otherwise.
+/// The protocol of requests and replies. It changes if a request that was answered is read
+/// otherwise.
 const PROTOCOL: u64 = 1;
 
 /// The version of the library.

@@ -16,7 +16,7 @@ use std::alloc::Global;
 /// What a value that is kept counts, beside the bytes of its text and of its name.
 const BESIDE: u64 = 500;
 
-/// What each locale of a style counts besides: the tag of a language is short, and its locale large.
+/// What each locale of a style counts besides: the tag of a language is short, its locale large.
 const LOCALE: u64 = 64_000;
 
 /// How many locales the value of a style has.
@@ -52,8 +52,8 @@ fn style_within(alloc: Global, value: &Value, limits: SessionLimits) -> Result<S
     }
 }
 
-/// The answer to a request that keeps a style: the first macro that it calls and does not define, or
-/// `null`.
+/// The answer to a request that keeps a style: the first macro that it calls and does not define,
+/// or `null`.
 fn style_answer(alloc: Global, style: &Style) -> Result<Value, Memory> {
     match style.missing_macro() {
         Some(name) => Ok(json!(in alloc; {"missing-macro": name})?),
@@ -61,8 +61,8 @@ fn style_answer(alloc: Global, style: &Style) -> Result<Value, Memory> {
     }
 }
 
-/// What a value counts that is kept by a name: the bytes of its text without spaces and of the name,
-/// and `BESIDE`.
+/// What a value counts that is kept by a name: the bytes of its text without spaces and of the
+/// name, and `BESIDE`.
 fn counted_bytes(alloc: Global, name: &str, value: &Value) -> Result<u64, Memory> {
     let text = value.to_string(alloc)?;
     let bytes = (text.len() as u64).saturating_add(name.len() as u64);

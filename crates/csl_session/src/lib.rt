@@ -1,5 +1,6 @@
-//! Requests and replies as JSON (docs/HOSTS.md): a [`Session`] keeps styles and works by names, and
-//! renders cites, lines of a bibliography and sort keys by them. [`serve`] answers a request a line.
+//! Requests and replies as JSON (docs/HOSTS.md): a [`Session`] keeps styles and works by names,
+//! and renders cites, lines of a bibliography and sort keys by them. [`serve`] answers a request a
+//! line.
 //!
 //! An error that the docs of a call do not explain means out of memory.
 #![tactic(auto)]

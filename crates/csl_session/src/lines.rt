@@ -66,8 +66,8 @@ fn write_line<W: Write>(writer: &mut W, reply: &str) -> io::Result<()> {
     writer.flush()
 }
 
-/// Answers the lines of an input, each of at most so many bytes, until it ends: one reply a line, in
-/// order, each written before the next line is read.
+/// Answers the lines of an input, each of at most so many bytes, until it ends: one reply a line,
+/// in order, each written before the next line is read.
 pub fn serve<R: BufRead, W: Write>(
     alloc: Global,
     session: &mut Session,

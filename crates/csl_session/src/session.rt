@@ -1,9 +1,9 @@
 //! A session: what is kept, and the reply to each request.
 //! Definitions: specs/Replies.antt.
 
-ghost use Rattle.std.specs.Prelude.{◌≡◌, Some, IfOk, string_bytes};
+ghost use Rattle.std.specs.Prelude.{◌≡◌, None, Some, IfOk, string_bytes};
 ghost use Rattle.std.specs.Str.{IsUtf8};
-ghost use Rattle.serde_json.specs.Data.{Data};
+ghost use Rattle.serde_json.specs.Data.{Data, null};
 ghost use Rattle.serde_json.specs.Read.{read};
 ghost use Rattle.csl_session.specs.Replies.{id_of, IsReplyText};
 
@@ -140,12 +140,14 @@ impl Session {
         self.answer_to(op, form)
     }
 
-    /// The reply to a request, as a JSON text in one line. `{"id": .., "ok": ..}` has an answer, and
-    /// `{"id": .., "error": {"code": .., "at": .., "message": ..}}` says why there is none. The id is
-    /// that of the request, or `null` if it has none.
+    /// The reply to a request, as a JSON text in one line. `{"id": .., "ok": ..}` has an answer,
+    /// and `{"id": .., "error": {"code": .., "at": .., "message": ..}}` says why there is none. The
+    /// id is that of the request, or `null` if it has none.
     pub fn reply(&mut self, alloc: Global, request: &[u8]) -> Result<String, Memory>
-        ensures { (d : Data) → IsUtf8 request.now → read request.now ≡ Some d → IfOk result (λ text.
-            IsReplyText (id_of d) (string_bytes text)) }
+        ensures json { (d : Data) → IsUtf8 request.now → read request.now ≡ Some d → IfOk result
+            (λ text. IsReplyText (id_of d) (string_bytes text)) }
+        ensures other { read request.now ≡ None → IfOk result (λ text. IsReplyText null
+            (string_bytes text)) }
     {
         let null = Value::Null;
         match value_of_bytes(alloc, request) {

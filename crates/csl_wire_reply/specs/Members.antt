@@ -1,8 +1,9 @@
 -- Objects of a reply (docs/WIRE.md, Replies): formattings and persons as members. What has its
 -- default, or is absent, has no member.
-use Rattle.std.specs.Prelude.{List, ℕ, Bool, true, false, Option, Some, None, codes}
+use Rattle.std.specs.Prelude.{List, ℕ, Bool, true, false, Option, Some, None, codes, map}
 use Rattle.std.specs.Borrow.{Bor}
-use Rattle.serde_json.specs.Data.{Members, boolean, string, put}
+use Rattle.serde_json.specs.Data.{Data, Members, boolean, number, string, unsigned, array, object, no_members, put}
+use Rattle.serde_json.specs.View.{items_of}
 use Rattle.lit_model.specs.Person.{PersonView}
 use Rattle.csl_elements.specs.declared.formatting.FontStyle.{FontStyle}
 use Rattle.csl_elements.specs.declared.formatting.FontStyle.TheVariants as style
@@ -75,3 +76,10 @@ put_parts p ms =
     put_if (codes "suffix") p.suffix
     (put_if (codes "prefix") p.prefix
     (put_if (codes "given") p.given_name ms))
+
+-- what a person has beside a name
+unfoldable pub put_others : PersonView → Members → Members
+put_others p ms = put_flag (codes "comma-suffix") p.comma_suffix (put_if (codes "alias") p.alias ms)
+
+abbrev pub person_data : PersonView → Data
+person_data p = object (put_others p (put_parts p (put (codes "family") (string p.name) no_members)))

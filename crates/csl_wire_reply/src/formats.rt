@@ -1,11 +1,12 @@
 //! The formats of a reply.
-//! Definitions: crates/csl_tree/specs/Tokens.antt, crates/csl_tree/specs/Write.antt.
+//! Definitions: specs/Contents.antt.
 
-ghost use Rattle.std.specs.Prelude.{◌≡◌, true, false, OnOk};
-ghost use Rattle.serde_json.specs.Data.{string, put as with_member};
-ghost use Rattle.serde_json.specs.View.{members_view};
-ghost use Rattle.csl_tree.specs.Tokens.{tokens};
-ghost use Rattle.csl_tree.specs.Write.{text_in_format};
+ghost use Rattle.std.specs.Prelude.{◌≡◌, true, false, IfOk, OnOk, codes};
+ghost use Rattle.serde_json.specs.Data.{no_members};
+ghost use Rattle.serde_json.specs.View.{members_view, view};
+ghost use Rattle.csl_tree.specs.declared.elem.BufWriteFormat.TheVariants as written;
+ghost use Rattle.csl_wire_reply.specs.Contents.{HasTree, IsContent, IsMarked};
+ghost use Rattle.csl_wire_reply.specs.Contents as spec;
 
 use crate::members::put;
 use crate::tree::tree_value;
@@ -33,6 +34,7 @@ pub struct Formats {
 const MOST_LEVELS: u8 = 56;
 
 /// Sets a member to the text of a content in a format, if it is wanted.
+#[tactic(auto, unfolding(crate::specs::Contents::put_format))]
 fn put_format(
     alloc: Global,
     members: &mut Map<String, Value>,
@@ -41,46 +43,62 @@ fn put_format(
     format: BufWriteFormat,
     is_wanted: bool,
 ) -> Result<(), Memory>
-    ensures wanted { is_wanted ≡ true → OnOk result (members_view members.new.entries
-        ≡ with_member name.now (string (text_in_format format (tokens content.now)))
+    ensures { OnOk result (members_view members.new.entries
+        ≡ spec.put_format name.now format content.now is_wanted
         (members_view members.old.entries)) }
-    ensures left { is_wanted ≡ false → OnOk result (members_view members.new.entries
-        ≡ members_view members.old.entries) }
 {
     if is_wanted {
         let text = content.to_text(alloc, format)?;
         put(alloc, members, name, Value::String(text))?;
-        return Ok(());
     }
     Ok(())
 }
 
-/// Sets a member to the tree of a content, if it is wanted.
+/// Sets a member to the normal form of a content.
 fn put_tree(
+    alloc: Global,
+    members: &mut Map<String, Value>,
+    content: &ElemChildren,
+) -> Result<(), WireError>
+    ensures { OnOk result (HasTree content.now (members_view members.old.entries)
+        (members_view members.new.entries)) }
+{
+    let simple = simplify_fully(alloc, content)?;
+    let value = tree_value(alloc, &simple, MOST_LEVELS)?;
+    put(alloc, members, "tree", value)?;
+    Ok(())
+}
+
+/// Sets a member to the normal form of a content, if it is wanted.
+fn put_tree_if(
     alloc: Global,
     members: &mut Map<String, Value>,
     content: &ElemChildren,
     is_wanted: bool,
 ) -> Result<(), WireError>
+    ensures wanted { is_wanted ≡ true → OnOk result (HasTree content.now
+        (members_view members.old.entries) (members_view members.new.entries)) }
     ensures left { is_wanted ≡ false → OnOk result (members_view members.new.entries
         ≡ members_view members.old.entries) }
 {
     if is_wanted {
-        let simple = simplify_fully(alloc, content)?;
-        let value = tree_value(alloc, &simple, MOST_LEVELS)?;
-        put(alloc, members, "tree", value)?;
+        put_tree(alloc, members, content)?;
         return Ok(());
     }
     Ok(())
 }
 
 /// The members, with the HTML and the tree of a content.
+#[tactic(auto, using(crate::proofs::Contents::marked))]
 fn marked_value(
     alloc: Global,
     before: Map<String, Value>,
     content: &ElemChildren,
     formats: Formats,
-) -> Result<Value, WireError> {
+) -> Result<Value, WireError>
+    ensures { IfOk result (λ v. IsMarked formats content.now (members_view before.entries)
+        (view v)) }
+{
     let mut members = before;
     put_format(
         alloc,
@@ -90,8 +108,29 @@ fn marked_value(
         BufWriteFormat::Html,
         formats.html,
     )?;
-    put_tree(alloc, &mut members, content, formats.tree)?;
+    put_tree_if(alloc, &mut members, content, formats.tree)?;
     Ok(Value::Object(members))
+}
+
+/// The members of a reply, with the plain text of a content, if it is wanted.
+fn plain_members(
+    alloc: Global,
+    content: &ElemChildren,
+    is_wanted: bool,
+) -> Result<Map<String, Value>, Memory>
+    ensures { IfOk result (λ m. members_view m.entries ≡ spec.put_format (codes "plain")
+        written.Plain content.now is_wanted no_members) }
+{
+    let mut members = Map::new(alloc);
+    put_format(
+        alloc,
+        &mut members,
+        "plain",
+        content,
+        BufWriteFormat::Plain,
+        is_wanted,
+    )?;
+    Ok(members)
 }
 
 /// A content in these formats, as an object.
@@ -103,19 +142,15 @@ pub fn content_value(
     alloc: Global,
     content: ElemChildren,
     formats: Formats,
-) -> Result<Value, WireError> {
-    let mut members = Map::new(alloc);
-    put_format(
-        alloc,
-        &mut members,
-        "plain",
-        &content,
-        BufWriteFormat::Plain,
-        formats.plain,
-    )?;
+) -> Result<Value, WireError>
+    ensures { IfOk result (λ v. IsContent formats content (view v)) }
+{
+    let members = plain_members(alloc, &content, formats.plain)?;
     if formats.has_all_links {
-        return marked_value(alloc, members, &content, formats);
+        let value = marked_value(alloc, members, &content, formats)?;
+        return Ok(value);
     }
     let linked = with_web_links(alloc, content)?;
-    marked_value(alloc, members, &linked, formats)
+    let value = marked_value(alloc, members, &linked, formats)?;
+    Ok(value)
 }

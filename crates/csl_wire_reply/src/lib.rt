@@ -1,5 +1,5 @@
-//! Rendered contents as JSON values (docs/WIRE.md, Replies): as plain text, as HTML, and as the tree
-//! of their texts.
+//! Rendered contents as JSON values (docs/WIRE.md, Replies): as plain text, as HTML, and as the
+//! tree of their texts.
 //!
 //! An error that the docs of a call do not explain means out of memory.
 #![tactic(auto)]

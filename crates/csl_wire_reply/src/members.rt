@@ -60,7 +60,8 @@ pub(crate) fn put_text_if(
     text: Option<&str>,
 ) -> Result<(), Memory>
     ensures { OnOk result (members_view members.new.entries
-        ≡ spec.put_if name.now (option_map spec.borrowed text.entry) (members_view members.old.entries)) }
+        ≡ spec.put_if name.now (option_map spec.borrowed text.entry)
+        (members_view members.old.entries)) }
 {
     if let Some(text) = text {
         put_text(alloc, members, name, text)?;

@@ -3,6 +3,8 @@
 
 ghost use Rattle.std.specs.Prelude.{◌≡◌, ◌+◌, IfOk, OnOk, string_bytes};
 ghost use Rattle.serde_json.specs.View.{view, members_view};
+ghost use Rattle.csl_tree.specs.declared.elem.Elem.{out-Elem};
+ghost use Rattle.csl_tree.specs.Tokens.{optional_meta};
 ghost use Rattle.csl_wire_reply.specs.Members as members_spec;
 ghost use Rattle.csl_wire_reply.specs.Tree as spec;
 
@@ -95,7 +97,10 @@ fn put_display(
 }
 
 /// An element around children that were made.
-fn elem_value(alloc: Global, elem: &Elem, children: Value) -> Result<Value, Memory> {
+fn elem_value(alloc: Global, elem: &Elem, children: Value) -> Result<Value, Memory>
+    ensures { IfOk result (λ v. view v ≡ spec.elem_data (out-Elem elem.now).display
+        (optional_meta (out-Elem elem.now).meta) (view children)) }
+{
     let mut members = Map::new(alloc);
     put(alloc, &mut members, "children", children)?;
     put_display(alloc, &mut members, elem.display)?;
@@ -118,7 +123,9 @@ fn below(alloc: Global, levels: u8) -> Result<u8, WireError>
 
 /// A child, in which elements stand at most so deep.
 #[cycle(values)]
-fn child_value(alloc: Global, child: &ElemChild, levels: u8) -> Result<Value, WireError> {
+fn child_value(alloc: Global, child: &ElemChild, levels: u8) -> Result<Value, WireError>
+    ensures { IfOk result (λ v. view v ≡ spec.child_data child.now) }
+{
     match child {
         ElemChild::Text(text) => {
             let members = text_members(alloc, text)?;
@@ -140,9 +147,12 @@ fn child_value(alloc: Global, child: &ElemChild, levels: u8) -> Result<Value, Wi
 /// A content as the list of its children.
 ///
 /// # Errors
-/// [`WireError::Refused`], with [`Code::TooDeep`]: more elements than `levels` stand in one another.
+/// [`WireError::Refused`], with [`Code::TooDeep`]: more elements than `levels` stand in one
+/// another.
 #[cycle(values)]
-pub fn tree_value(alloc: Global, content: &ElemChildren, levels: u8) -> Result<Value, WireError> {
+pub fn tree_value(alloc: Global, content: &ElemChildren, levels: u8) -> Result<Value, WireError>
+    ensures { IfOk result (λ v. view v ≡ spec.tree_data content.now) }
+{
     let mut items = Vec::with_capacity(alloc, content.0.len())?;
     for child in &content.0 {
         items.push(child_value(alloc, child, levels)?)?;
