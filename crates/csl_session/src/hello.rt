@@ -53,6 +53,7 @@ fn limits_value(alloc: Global, limits: SessionLimits) -> Result<Value, Memory> {
     let mut members = Map::new(alloc);
     put_number(alloc, &mut members, "style-text", limits.read.text as u64)?;
     put_number(alloc, &mut members, "style-locales", limits.locales as u64)?;
+    put_number(alloc, &mut members, "values", limits.values as u64)?;
     put_number(alloc, &mut members, "items", limits.items as u64)?;
     put_number(alloc, &mut members, "work-texts", limits.work.bytes as u64)?;
     put_number(

@@ -17,7 +17,7 @@ use std::alloc::Global;
 const BESIDE: u64 = 500;
 
 /// What each locale of a style counts besides: the tag of a language is short, its locale large.
-const LOCALE: u64 = 64_000;
+const LOCALE: u64 = 2_000;
 
 /// How many locales the value of a style has.
 fn count_of_locales(value: &Value) -> usize {

@@ -24,6 +24,8 @@ pub struct SessionLimits {
     pub style: Option<StyleLimits>,
     /// The most locales of a style.
     pub locales: usize,
+    /// The most values of a line, as its characters `{`, `[`, `,` and `:` count them.
+    pub values: usize,
     /// The most items of a request: works, cites, lines or keys. Each has a reply of its own.
     pub items: usize,
     /// How much is read of a work and of a cite.
@@ -33,7 +35,7 @@ pub struct SessionLimits {
     /// The most bytes of a reply that is no refusal.
     pub reply: usize,
     /// The most bytes of all styles that are kept, as JSON texts without spaces, with their names.
-    /// A style counts 500 more, and each of its locales 64,000.
+    /// A style counts 500 more, and each of its locales 2,000.
     pub kept_styles: u64,
     /// The most bytes of all works that are kept, likewise. A work counts 500 more.
     pub kept_works: u64,
@@ -50,11 +52,12 @@ impl SessionLimits {
                 depth: 64,
             }),
             locales: 20,
+            values: 1_000_000,
             items: 10_000,
             work: WorkLimits::of_strangers(),
             room: 4_000_000,
             reply: 16_000_000,
-            kept_styles: 64_000_000,
+            kept_styles: 16_000_000,
             kept_works: 32_000_000,
         }
     }
@@ -65,6 +68,7 @@ impl SessionLimits {
             read: Limits::none(),
             style: None,
             locales: usize::MAX,
+            values: usize::MAX,
             items: usize::MAX,
             work: WorkLimits::none(),
             room: u64::MAX,

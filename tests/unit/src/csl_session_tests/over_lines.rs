@@ -45,7 +45,7 @@ fn faults_have_replies(rt: HostRuntime) -> Result<(), Fail> {
         "{\"error\":{\"at\":\"\",\"code\":\"not-json\",\"message\":\"the request is no UTF-8\"},\"id\":null}\n";
     assert_lines(&rt, alloc, b"{\"id\":\"\xff\"}\n", utf8);
     let long =
-        "{\"error\":{\"at\":\"\",\"code\":\"too-large\",\"message\":\"the request is longer than is allowed\"},\"id\":null}\n";
+        "{\"error\":{\"at\":\"\",\"code\":\"too-large\",\"message\":\"the request is larger than is allowed\"},\"id\":null}\n";
     assert_lines(
         &rt,
         alloc,
@@ -74,6 +74,26 @@ fn faults_have_replies(rt: HostRuntime) -> Result<(), Fail> {
         assert!(rt; text.ends_with(",\"id\":null}\n"), "{text}");
         assert!(rt; ending == Ending::Input);
     }
+    Ok(())
+}
+
+#[test]
+fn values_of_a_line_are_bounded(rt: HostRuntime) -> Result<(), Fail> {
+    let alloc = rt.alloc();
+    let limits = SessionLimits {
+        values: 3,
+        ..SessionLimits::of_strangers()
+    };
+    let mut session = Session::new(alloc, limits);
+    let mut reader = &b"{\"id\":[0,0]}\n{\"id\":[0]}\n"[..];
+    let mut output = Vec::new(alloc);
+    let ending = serve(alloc, &mut session, &mut reader, &mut output, 40);
+    let text = str::from_utf8(output.as_slice()).ok().expect(&rt, "text");
+    let wanted =
+        "{\"error\":{\"at\":\"\",\"code\":\"too-large\",\"message\":\"the request is larger than is allowed\"},\"id\":null}\n";
+    assert!(rt; text.starts_with(wanted), "{text}");
+    assert!(rt; text.ends_with(",\"id\":[0]}\n"), "{text}");
+    assert!(rt; ending == Ending::Input);
     Ok(())
 }
 
