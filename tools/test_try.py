@@ -8,11 +8,11 @@ from typing import Any
 
 from csl_source import library
 from csl_source.cites import citations
-from csl_source.document import LARGE, Refused
 from csl_source.items import items as read_items
 from csl_source.page import rules
 from kit import TOP, read
 from programs import Program
+from sulleqti.document import LARGE, Refused
 from testing import ran, ran_on_full_disk
 
 STYLES = "tools/samples"
