@@ -6,6 +6,7 @@ from csl_source.code import (ONE, STEPS, Call, Converted, Expression, Fields, Lo
                              Vector, comment, function, over, quoted, size, snake, unique)
 from sulleqti.attributes import FORMATTING, INHERITED, Sorts, Tree
 from sulleqti.elements import TARGETS, TESTS, Around
+from sulleqti.names import SORTS
 
 # What a part is, and the type of it that a function returns.
 RESULTS = {"element": "LayoutRenderingElement", "child": "NamesChild", "branch": "ChooseBranch",
@@ -24,14 +25,9 @@ def some(value: Expression | None) -> Expression | None:
     return value if value is None or value == "None" else Call("Some", value)
 
 
-def variables(*enums: str) -> dict[str, str]:
-    """The variables of these enums, by name."""
-    return {name: variant for enum in enums for name, variant in library.variants(enum).items()}
-
-
 def any_variable(name: str) -> str:
     """A variable, as a value of any sort of them."""
-    return f"{variables(*library.VARIABLES)[name]}.into()"
+    return f"{library.variants(SORTS[name])[name]}.into()"
 
 
 def value_of(sort: str, value: Any) -> Expression:
@@ -169,28 +165,19 @@ class Elements:
         """A text."""
         target = next(it for it in TARGETS if it in tree)
         word = snake("", "value") if target == "value" else snake(tree[target], "text")
-        made = getattr(self, f"text_of_{target}")(tree)
         fields = [("quotes", flag(tree, "quotes")), ("strip_periods", flag(tree, "strip-periods"))]
-        return self.dressed(tree, made, fields, [], word)
+        return self.dressed(tree, self.printed(target, tree), fields, [], word)
 
-    def text_of_variable(self, tree: Tree) -> Call:
-        """A text of a variable, in its short form if that is asked for."""
-        variable = any_variable(tree["variable"])
-        if tree.get("form") != "short":
-            return Call("Text::variable", variable)
-        fields = [("var", variable), ("form", "LongShortForm::Short")]
-        return Call("Text::new", Struct("TextTarget::Variable", fields))
-
-    def text_of_macro(self, tree: Tree) -> Call:
-        """A text of a macro."""
-        return Call("Text::macro_call", "alloc", quoted(tree["macro"]), tail="?")
-
-    def text_of_value(self, tree: Tree) -> Call:
-        """A text of its own."""
-        return Call("Text::value", "alloc", quoted(tree["value"]), tail="?")
-
-    def text_of_term(self, tree: Tree) -> Call:
-        """A text of a term."""
+    def printed(self, target: str, tree: Tree) -> Call:
+        """A text without its look."""
+        if target in ("macro", "value"):
+            call = "macro_call" if target == "macro" else target
+            return Call(f"Text::{call}", "alloc", quoted(tree[target]), tail="?")
+        if target == "variable":
+            variable, form = any_variable(tree["variable"]), "LongShortForm::Short"
+            fields = [("var", variable), ("form", form)]
+            return Call("Text::variable", variable) if tree.get("form") != "short" \
+                else Call("Text::new", Struct("TextTarget::Variable", fields))
         term = library.terms()[tree["term"]][0]
         form, plural = given(tree, "form", "TermForm", "long"), flag(tree, "plural")
         if form is None and plural is None:
@@ -244,7 +231,7 @@ class Elements:
         names = {"form": "form", "date_parts": "parts", "delimiter": "delimiter"}
         sorts = {"form": "DateForm", "date-parts": "DateParts", "delimiter": "text"}
         fields = [(names[name], value) for name, value in fields_of(tree, sorts)]
-        made = Call("Date::new", variables("DateVariable")[tree["variable"]], parts)
+        made = Call("Date::new", library.variants("DateVariable")[tree["variable"]], parts)
         return self.dressed(tree, made, fields, steps, snake(tree["variable"], "date"))
 
     # ---- names
@@ -290,7 +277,7 @@ class Elements:
             steps.append((children, Vector(items)))
         fields = [("children", children if items else None),
                   *fields_of(tree, {"delimiter": "text"})]
-        known = variables("NameVariable")
+        known = library.variants("NameVariable")
         steps.append((persons, Vector([known[it] for it in tree["variable"]])))
         made = Call("Names::new", "alloc", persons)
         return self.dressed(tree, made, fields, steps, snake(tree["variable"][0], "names"))

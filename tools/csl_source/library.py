@@ -82,12 +82,6 @@ def variants(enum: str) -> dict[str, str]:
 
 
 @functools.cache
-def kinds() -> dict[str, str]:
-    """The kinds of entries, by name."""
-    return variants("Kind")
-
-
-@functools.cache
 def locators() -> dict[str, str]:
     """The kinds of locators that CSL names."""
     named = variants("Locator")

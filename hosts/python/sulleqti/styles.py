@@ -2,8 +2,9 @@
 from __future__ import annotations
 
 import collections
+import graphlib
 import unicodedata
-from typing import Counter, Dict, Iterator, List, Sequence, Set
+from typing import Counter, Dict, List, Sequence
 
 from sulleqti.attributes import INHERITED, Attributes, Tree
 from sulleqti.document import CS, Node, document
@@ -36,49 +37,27 @@ def plain(text: str | None) -> str:
     return "".join(it for it in text if unicodedata.category(it)[0] != "C")
 
 
-def nodes_in(node: Node) -> Iterator[Node]:
-    """An element, and all elements below it, in the order of the file."""
-    yield node
-    for child in node:
-        yield from nodes_in(child)
-
-
-def macros_of(style: Node) -> Dict[str, Node]:
-    """The macros by name. It refuses one that is there twice, that is missing, or that leads back
-    to itself."""
+def macros_of(style: Node) -> List[Node]:
+    """The macros. It refuses one that is there twice, that is missing, or that leads back to
+    itself."""
     macros: Dict[str, Node] = {}
     for node in style.below("macro"):
         name = Attributes(node).needed("name")
         if name in macros:
             node.refuse(f"the macro `{name}` is there twice")
         macros[name] = node
-    for node in nodes_in(style):
+    for node in style.iter():
         called = node.get("macro") if node.name in ("text", "key") else None
         if called is not None and called not in macros:
             node.refuse(f"the macro `{called}` is missing")
-    done: Set[str] = set()
-    for name in macros:
-        refuse_cycle(name, macros, done)
-    return macros
-
-
-def refuse_cycle(first: str, macros: Dict[str, Node], done: Set[str]) -> None:
-    """Follows the calls of a macro, and refuses one that leads back to itself. Of the macros in
-    `done` none does."""
-    path: Set[str] = set()
-    rest = [(first, True)]
-    while rest:
-        name, begins = rest.pop()
-        if not begins:
-            done.add(name)
-            path.remove(name)
-        elif name in path:
-            macros[name].refuse(f"the macro `{name}` leads back to itself")
-        elif name not in done:
-            path.add(name)
-            rest.append((name, False))
-            called = [text.get("macro") for text in macros[name].iter(f"{CS}text")]
-            rest += [(macro, True) for macro in called if macro is not None]
+    calls = {name: [it.get("macro") for it in node.iter(f"{CS}text") if it.get("macro")]
+             for name, node in macros.items()}
+    try:
+        graphlib.TopologicalSorter(calls).prepare()
+    except graphlib.CycleError as why:
+        name = min(why.args[1], key=list(macros).index)
+        macros[name].refuse(f"the macro `{name}` leads back to itself")
+    return list(macros.values())
 
 
 def refuse_dependent(root: Node) -> None:
@@ -109,7 +88,7 @@ class Style:
         for name in LAYOUTS:
             if (node := self.root.first(name)) is not None:
                 self.tree[name].update(self.layout(node))
-        self.tree["macros"] = [self.macro(it) for it in macros.values()]
+        self.tree["macros"] = [self.macro(it) for it in macros]
         self.tree["locales"] = self.all_locales()
 
     def default_locale(self) -> Locale:
