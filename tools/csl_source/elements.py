@@ -219,7 +219,7 @@ class Elements:
 
     def date_parts(self, tree: Tree) -> tuple[list[Step], Expression]:
         """The steps that build the list of a date's parts, and the list."""
-        if not tree["date-part"]:
+        if "date-part" not in tree:
             return [], "Vec::new(alloc)"
         steps = [self.date_part(it) for it in tree["date-part"]]
         parts = Local("parts")
@@ -238,7 +238,7 @@ class Elements:
 
     def names_name(self, tree: Tree) -> Part:
         """How names are written: the child `name` of `names`."""
-        steps = [self.name_part(it) for it in tree["name-part"]]
+        steps = [self.name_part(it) for it in tree.get("name-part", ())]
         own = {f"name-{it}": tree[it] for it in ("form", "delimiter") if it in tree}
         fields: Fields = [("options", name_options({**tree, **own})),
                           ("formatting", formatting(tree)),

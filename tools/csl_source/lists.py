@@ -25,10 +25,11 @@ def option(tree: Tree, name: str, sort: str) -> Expression | None:
 
 def options(name: str, tree: Tree) -> Fields:
     """The options of a citation or of a bibliography, with the texts around its layout."""
+    layout = tree["layout"]
     # (the bibliography has no delimiter)
-    texts = [it for it in TEXTS if tree.get(it) and (name, it) != ("bibliography", "delimiter")]
+    texts = [it for it in TEXTS if layout.get(it)]
     keys = [("keys", Vector([key(it) for it in tree["sort"]]))] if tree["sort"] else []
-    return [*((it, string(tree[it])) for it in texts), *keys,
+    return [*((it, string(layout[it])) for it in texts), *keys,
             *((FIELDS.get(it, it.replace("-", "_")), option(tree, it, sort))
               for it, sort in LISTED[name].items() if not it.endswith("substitute-rule"))]
 
@@ -53,13 +54,13 @@ def made(name: str, fields: Fields, indent: int) -> list[str]:
     return [*comment(about, indent), *lines]
 
 
-def list_style(listed: Tree, indent: int) -> list[list[str]]:
+def list_style(tree: Tree, indent: int) -> list[list[str]]:
     """The function that returns the style with its options, and those that it calls."""
-    blocks = [made(name, options(name, listed[name]), indent) for name in LISTED if name in listed]
+    blocks = [made(name, options(name, tree[name]), indent) for name in LISTED if name in tree]
     bibliography = "None"
     steps: list[Step] = [(Local("style"), "style(alloc)?"),
                          (Local("citation"), "citation_options(alloc)?")]
-    if "bibliography" in listed:
+    if "bibliography" in tree:
         bibliography = Local("bibliography")
         steps.append((bibliography, "Some(bibliography_options(alloc)?)"))
     new = Call("ListStyle::new", "alloc", "style", "citation", bibliography,

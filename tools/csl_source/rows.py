@@ -12,8 +12,10 @@ from sulleqti.locales import OPTIONS, locale_of
 from sulleqti.names import NAMES, OTHER_TERMS
 from sulleqti.styles import LAYOUTS, LISTED, TEXTS, Style, plain
 
-LOOK = (*FORMATTING, *AFFIXES)
 OF_NAMES = ("name-form", "name-delimiter", "names-delimiter", *NAME_OPTIONS)
+# The text case, once the notation has it; then it is not left out.
+CASE: tuple[str, ...] = ()
+LOOK = (*CASE, *FORMATTING, *AFFIXES)
 # The attributes of each node in their order, beside its look.
 OWN = {
     "text": (*TARGETS, "form", "plural", "quotes", "strip-periods"),
@@ -41,7 +43,9 @@ class Rows:
 
     def __init__(self, path: str, locale: str | None = None) -> None:
         self.style = Style(path, [] if locale is None else [locale_of(locale)])
-        self.tree, self.left = self.style.tree, self.style.left
+        self.tree, self.left = self.style.tree["style"], self.style.left
+        for name in CASE:
+            del self.left[f"`{name}`"]
         self.locales = [it for it in self.tree["locales"] if not isinstance(it, str)]
 
     def file(self) -> str:
@@ -124,7 +128,7 @@ class Rows:
         """The terms and dates of a locale."""
         return [*map(self.term, tree["terms"]),
                 *(Form("date", self.attributes(it, ("form", "delimiter", *LOOK)),
-                       list(map(self.date_part, it["date-part"]))) for it in tree["dates"])]
+                       list(map(self.date_part, it.get("date-part", ())))) for it in tree["dates"])]
 
     def term(self, tree: Tree) -> Form:
         """A term of a locale."""
@@ -148,12 +152,11 @@ class Rows:
 
     def driver(self) -> Iterator[Form]:
         """What a driver does: the texts around a layout, its options, and the sort keys."""
-        listed = self.style.listed
-        is_note = ["class=note"] * (listed["class"] == "note")
         for name in LAYOUTS:
-            if tree := listed.get(name):
-                around = is_note if name == "citation" else []
-                around = [*around, *self.attributes(tree, (*TEXTS, *LISTED[name]))]
+            if tree := self.style.tree.get(name):
+                is_note = name == "citation" and self.style.has_notes
+                around = [*(["class=note"] if is_note else []),
+                          *self.attributes({**tree, **tree["layout"]}, (*TEXTS, *LISTED[name]))]
                 if around:
                     yield Form(f"around {name}", around)
                 if tree["sort"]:

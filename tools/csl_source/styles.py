@@ -19,7 +19,7 @@ class StyleFile:
     one."""
 
     def __init__(self, style: Style, locales: Sequence[str], module: str | None = None) -> None:
-        self.style, self.tree, self.names = style, style.tree, locales
+        self.style, self.tree, self.names = style, style.tree["style"], locales
         self.module, self.indent = module, 4 if module else 0
         own = ["style", "style_settings", "list_style", *(f"{it}_options" for it in LAYOUTS)]
         taken = dict.fromkeys([*own, *HELPERS], 2)
@@ -33,7 +33,7 @@ class StyleFile:
         added = self.macro_lists([self.macro(it) for it in self.tree["macros"]])
         names = [name for name, _ in added]
         main = self.main(bool(settings), names, layouts, self.locale_calls())
-        blocks = [main, *lists.list_style(self.style.listed, self.indent)]
+        blocks = [main, *lists.list_style(self.style.tree, self.indent)]
         blocks += [settings] if settings else []
         blocks += [*(lines for _, lines in added), *self.elements.functions]
         return self.joined([*blocks, *self.locales.written, *self.locales.helpers()])

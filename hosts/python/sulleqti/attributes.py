@@ -28,6 +28,13 @@ NAME_OPTIONS = {name: sort for name, sort in INHERITED.items()
                 if name not in ("name-form", "name-delimiter", "names-delimiter")}
 
 
+def rendered(value: Any) -> Any:
+    """A value without the text cases in it, which the library does not render."""
+    if isinstance(value, dict):
+        return {name: rendered(it) for name, it in value.items() if name != "text-case"}
+    return [rendered(it) for it in value] if isinstance(value, list) else value
+
+
 class Attributes:
     """The attributes of an element that are still to be read. `left` counts what the library leaves
     out."""
@@ -83,6 +90,11 @@ class Attributes:
             self.rest["font-style"] = "italic"
             self.left["`font-style` oblique (written as italic)"] += 1
         return self.taken(FORMATTING)
+
+    def text_case(self) -> Tree:
+        """The text case, which is counted: no writer has it yet (`rendered`)."""
+        self.left["`text-case`"] += "text-case" in self.rest
+        return self.taken({"text-case": "text"})
 
     def end(self, children: Tuple[str, ...] = ()) -> None:
         """Refuses any other attribute, and each child but these."""

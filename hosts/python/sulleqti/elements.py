@@ -61,9 +61,8 @@ class Elements:
         formatting, so they go to a group around a node that has both. (A group counts as a
         variable, so no group may be around a node that prints none.)"""
         is_split = given.is_split()
-        value.update(given.formatting())
+        value.update({**given.formatting(), **given.text_case()})
         outer = given.taken({**AFFIXES, "display": "Display"})
-        given.leave_out("text-case")
         if is_split and is_variable:
             inner = {given.node.name: self.made(given.node, value)}
             return {"group": self.made(given.node, Around({**outer, "children": [inner]}))}
@@ -73,9 +72,7 @@ class Elements:
     def look(self, given: Attributes) -> Tree:
         """The formatting and the affixes of what no group can be around."""
         self.left[INSIDE] += given.is_split()
-        found = {**given.formatting(), **given.taken(AFFIXES)}
-        given.leave_out("text-case")
-        return found
+        return {**given.formatting(), **given.taken(AFFIXES), **given.text_case()}
 
     # ---- texts, numbers, labels and dates
 
@@ -118,12 +115,13 @@ class Elements:
         given.end()
         return {"label": self.made(given.node, value)}
 
-    def date_parts(self, node: Node) -> List[Tree]:
-        """The parts of a date."""
+    def date_parts(self, node: Node) -> Tree:
+        """The parts of a date, if it has any."""
         for child in node:
             if child.name != "date-part":
                 child.refuse(f"`{child.name}` has no place in `date`")
-        return [self.date_part(Attributes(child, self.left)) for child in node]
+        parts = [self.date_part(Attributes(child, self.left)) for child in node]
+        return {"date-part": parts} if parts else {}
 
     def date_part(self, given: Attributes) -> Tree:
         """A part of a date."""
@@ -142,8 +140,7 @@ class Elements:
                              "date-parts": "DateParts", "delimiter": "text"})
         if "form" not in value and not len(given.node):
             given.node.refuse("`date` needs a form or parts")
-        value["date-part"] = self.date_parts(given.node)
-        made = self.dressed(given, value)
+        made = self.dressed(given, {**value, **self.date_parts(given.node)})
         given.end(("date-part",))
         return made
 
@@ -184,7 +181,9 @@ class Elements:
             parts[part["name"]] = part
         self.left["affixes of `name`"] += bool(given.taken(AFFIXES))
         sorts = {"form": "NameForm", "delimiter": "text", **NAME_OPTIONS}
-        value = {**given.taken(sorts), **given.formatting(), "name-part": list(parts.values())}
+        value = {**given.taken(sorts), **given.formatting()}
+        if parts:
+            value["name-part"] = list(parts.values())
         given.end(("name-part",))
         return {"name": self.made(given.node, value)}
 

@@ -124,10 +124,8 @@ class Locales:
         """A localized date."""
         given = Attributes(node, self.left)
         given.needed("form")
-        value = given.taken({"form": "DateForm"})
-        value["date-part"] = self.elements.date_parts(node)
-        value.update({**given.taken({"delimiter": "text"}), **given.formatting(),
-                      **given.taken(AFFIXES)})
-        given.leave_out("text-case")
+        value = {**given.taken({"form": "DateForm"}), **self.elements.date_parts(node),
+                 **given.taken({"delimiter": "text"}), **given.formatting(),
+                 **given.taken(AFFIXES), **given.text_case()}
         given.end(("date-part",))
         return self.elements.made(node, value)

@@ -71,8 +71,8 @@ def refuse_dependent(root: Node) -> None:
 
 class Style:
     """Reads the style of a file, in the language of the first of these locales, or of its own if
-    the library has that, or else in English. `tree` is the style, without what says how it is
-    listed, which is in `listed`. `left` counts what the library leaves out."""
+    the library has that, or else in English. `tree` is the style with its options for documents.
+    `left` counts what the library leaves out."""
 
     def __init__(self, path: str, locales: Sequence[Locale] = ()) -> None:
         self.path, self.root = path, document(path, "style")
@@ -82,14 +82,14 @@ class Style:
         self.locales = list(locales) or [self.default_locale()]
         self.language = language_of(self.locales[0])
         self.left: Counter[str] = collections.Counter()
-        self.elements, self.listed = Elements(self.left), {}
+        self.elements, self.tree = Elements(self.left), {}
         macros = macros_of(self.root)
-        self.tree = self.settings()
+        style = self.tree["style"] = self.settings()
         for name in LAYOUTS:
             if (node := self.root.first(name)) is not None:
-                self.tree[name].update(self.layout(node))
-        self.tree["macros"] = [self.macro(it) for it in macros]
-        self.tree["locales"] = self.all_locales()
+                style[name].update(self.layout(node))
+        style["macros"] = [self.macro(it) for it in macros]
+        style["locales"] = self.all_locales()
 
     def default_locale(self) -> Locale:
         """The library's locale for the style's language, or else English."""
@@ -100,10 +100,10 @@ class Style:
         """The file and the line of what a JSON Pointer into `tree` leads to."""
         value, found = self.tree, f"{self.path}:1"
         for step in pointer.split("/")[1:]:
-            if isinstance(value, list):
-                value = value[int(step)] if step.isdigit() and int(step) < len(value) else None
-            elif isinstance(value, dict):
-                value = value.get(step.replace("~1", "/").replace("~0", "~"))
+            try:
+                value = value[int(step) if isinstance(value, list) else step]
+            except (LookupError, TypeError, ValueError):
+                break
             found = self.elements.places.get(id(value), found)
         return found
 
@@ -113,7 +113,7 @@ class Style:
         found = given.taken({"version": "text", "class": "class", "default-locale": "text"})
         other = "`default-locale` of another language than the locale"
         self.left[other] += found.get("default-locale", self.language) != self.language
-        self.listed["class"] = found.get("class", "in-text")
+        self.has_notes = found.get("class") == "note"
         pages = given.rest.get("page-range-format", "")
         if pages == "chicago" or pages.startswith("chicago-"):
             given.rest["page-range-format"] = "expanded"
@@ -126,13 +126,14 @@ class Style:
             for node in nodes:
                 own = Attributes(node, self.left)
                 tree[name] = self.elements.made(node, own.taken(INHERITED))
-                self.listed[name] = own.taken(LISTED[name])
+                self.tree[name] = own.taken(LISTED[name])
                 own.end(("sort", "layout"))
         given.end(("info", "locale", "macro", *LAYOUTS))
         return tree
 
     def layout(self, node: Node) -> Tree:
-        """The nodes of a layout, with their formatting. What says how they are listed is kept."""
+        """The nodes of a layout, with their formatting. The keys and the texts around the layout go
+        to the options."""
         for sort in node.below("sort"):
             Attributes(sort, self.left).end(("key",))
         keys = [self.key(it) for it in node.below("sort", "key")]
@@ -140,7 +141,10 @@ class Style:
         if len(layouts) != 1:
             node.refuse(f"`{node.name}` needs one `layout`")
         given = Attributes(layouts[0], self.left)
-        self.listed[node.name].update({**given.taken(TEXTS), "sort": keys})
+        self.tree[node.name].update({"layout": given.taken(TEXTS), "sort": keys})
+        if node.name == "bibliography":
+            # (nothing is between two works)
+            self.tree[node.name]["layout"].pop("delimiter", None)
         value = {"children": self.elements.nodes(layouts[0]), **given.formatting()}
         given.end(RENDERED)
         return value
