@@ -36,11 +36,11 @@ def attributes(tree: Tree, names: Any) -> list[str]:
 
 
 def items(path: str, left: Counter[str]) -> tuple[list[Item], list[str]]:
-    """The works of a file, and a line for each thing that is wrong, with its place. A work with
-    something wrong is not among them."""
+    """The works of a file, and a line for each thing that is wrong, with its place."""
     works, faults = works_of(path, left)
     found = []
     for it in works:
+        kinds = [f"type={kind}" for kind in it.tree.get("type", ())]
         forms = [form(*variable) for variable in it.tree["variables"].items()]
-        found.append(Item(it.place, it.id, " ".join([f"type={it.tree['type'][0]}", *forms])))
+        found.append(Item(it.place, it.id, " ".join([*kinds, *forms])))
     return found, faults

@@ -9,7 +9,6 @@ SEEN = (
     ("page ranges are in full, as 454–477 for 454–77", "the page format .*"),
     ("titles and labels keep their case", "`text-case`"),
     ("words are missing that the library has no term for", "the term .*"),
-    ("dates are missing that are in words", "dates in words"),
     ("ranges of dates are cut to their first date", "ranges of dates"),
     ("markup inside of titles is dropped", "markup in texts"),
     ("names are sorted as they print", "`names-(min|use-first|use-last)` of `key`"),

@@ -96,7 +96,8 @@ class Rows:
         head = tree.get("variable", []) if name != "text" else []
         names = OWN[name] if tree.get("term") != "et-al" or name == "text" else ()
         term = {"term": term_name(tree["term"])} if "term" in tree else {}
-        parts = [*self.nodes(tree.get("children", ())), *map(self.date_part, tree.get("date-part", ())),
+        parts = [*self.nodes(tree.get("children", ())),
+                 *map(self.date_part, tree.get("date-part", ())),
                  *(Form(f"name-part {it['name']}", self.attributes(it, LOOK))
                    for it in tree.get("name-part", ()))]
         return Form(" ".join([name, *([head] if isinstance(head, str) else head)]),

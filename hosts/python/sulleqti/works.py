@@ -34,14 +34,13 @@ SPACES = re.compile("[ \t\r\n]+")
 CONTROL = re.compile("[\0-\x1f\x7f-\x9f\u2028\u2029]")
 HALVES = re.compile("[\ud800-\udfff]")
 # What is left out of items.
-RANGES, WORDS, ORDER = "ranges of dates", "dates in words", "`static-ordering`"
-TAGS = "markup in texts"
+RANGES, ORDER, TAGS = "ranges of dates", "`static-ordering`", "markup in texts"
 NO_LIST = 'no list of items, as [{"id": "a", "type": "book"}]'
 PARTS = "no date: a year, a month and a day go here"
 
 
 class Wrong(Exception):
-    """What is wrong with an item."""
+    """What is wrong with a part of an item, which is left out."""
 
 
 def refuse_constant(name: str) -> None:
@@ -99,35 +98,62 @@ def days_of(year: int, month: int) -> int:
 
 
 class Reader:
-    """Reads works. `left` counts what is left out of them, `faults` what is wrong."""
+    """Reads works. `left` counts what is left out of them by rule. What is wrong with one is left
+    out too, and is in `wrong`, each with the name of the variable."""
 
     def __init__(self, left: Counter[str]) -> None:
-        self.left, self.faults = left, 0
+        self.left, self.hints, self.written = left, 0, ""
+        self.wrong: List[Tuple[str, str]] = []
+
+    def tell(self, why: object) -> None:
+        """Tells what is wrong with a part of the variable."""
+        self.wrong.append((self.written, f"{named(self.written)}: {why}"))
 
     def near(self, name: str, names: Iterable[str]) -> str:
         """A hint at the name that is like this one."""
-        self.faults += 1
-        is_short = self.faults <= MOST_HINTS and len(name) <= MOST_LETTERS
+        self.hints += 1
+        is_short = self.hints <= MOST_HINTS and len(name) <= MOST_LETTERS
         found = difflib.get_close_matches(name, list(names), 1) if is_short else []
         return f" (is it `{found[0]}`?)" if found else ""
 
-    def variables(self, item: Dict[str, Any]) -> Iterator[Tuple[str, str, Any]]:
-        """The variables of an item: its name of each, the variable, and the value, or what is wrong
-        there."""
+    def work(self, value: Any, place: str) -> Work | None:
+        """A work, or `None` if an item is none."""
+        self.wrong.clear()
+        if not isinstance(value, dict):
+            self.wrong.append(("", "an item has to be an object"))
+            return None
+        name, kind = value.get("id"), value.get("type")
+        if isinstance(name, bool) or not isinstance(name, (str, int)) or not cleaned(str(name)):
+            self.wrong.append(("id", "an item needs an `id`"))
+            return None
+        is_known = isinstance(kind, str) and kind in NAMES["Kind"]
+        if not isinstance(kind, str):
+            self.wrong.append(("type", "an item needs a `type`"))
+        elif not is_known:
+            near = self.near(kind, NAMES["Kind"])
+            self.wrong.append(("type", f"the type {named(kind)} is unknown{near}"))
+        name, variables = cleaned(str(name)), dict(self.variables(value))
+        kinds = {"type": [kind]} if is_known else {}
+        return Work(place, name, {**kinds, "key": name, "variables": variables})
+
+    def variables(self, item: Dict[str, Any]) -> Iterator[Tuple[str, Any]]:
+        """The variables of an item."""
         given = {OLDER.get(name, name): (name, value) for name, value in item.items()
                  if value not in (None, "")}
-        for name, (written, value) in given.items():
+        for name, (self.written, value) in given.items():
             if name not in PASSED_OVER:
                 try:
-                    yield written, name, self.value(name, value, given)
+                    found = self.value(name, value, given)
+                    if found != []:
+                        yield name, found
                 except Wrong as why:
-                    yield written, name, why
+                    self.tell(why)
         if "page" in given and "page-first" not in given:
             pages = cleaned(str(given["page"][1]))
-            yield "page", "page-first", re.split("[-\N{EN DASH},& ]", pages, maxsplit=1)[0]
+            yield "page-first", re.split("[-\N{EN DASH},& ]", pages, maxsplit=1)[0]
 
     def value(self, name: str, value: Any, given: Dict[str, Tuple[str, Any]]) -> Any:
-        """The value of a variable, or `None` if it is left out."""
+        """The value of a variable."""
         sort = SORTS.get(name)
         if sort is None:
             raise Wrong(f"the variable is unknown{self.near(name, [*SORTS, *OLDER])}")
@@ -159,16 +185,26 @@ class Reader:
             raise Wrong("a list of names goes here")
         if len(value) > MOST_PERSONS:
             raise Wrong(f"more than {MOST_PERSONS} names")
-        return [self.person(it) for it in value]
+        found = []
+        for it in value:
+            try:
+                found.append(self.person(it))
+            except Wrong as why:
+                self.tell(why)
+        return found
+
+    def tell_unknown(self, value: Tree, known: Iterable[str], why: str) -> None:
+        """Tells each member that is not known."""
+        for it in value:
+            if it not in known:
+                self.tell(f"{named(it)} {why}{self.near(it, known)}")
 
     def person(self, value: Any) -> Tree:
         """A person, or an institution. A particle that stays with the family name is the beginning
         of that name."""
         if not isinstance(value, dict):
             raise Wrong('a name has to be an object, as {"family": "Kwan", "given": "Kevin"}')
-        for it in value:
-            if it not in PERSON:
-                raise Wrong(f"{named(it)} is no part of a name{self.near(it, PERSON)}")
+        self.tell_unknown(value, PERSON, "is no part of a name")
         parts = {it: text_of(value[it]) for it in NAME_TEXTS if value.get(it) not in (None, "")}
         if "literal" in parts:
             return {"family": parts["literal"]}
@@ -188,35 +224,32 @@ class Reader:
             found["comma-suffix"] = True
         return {name: it for name, it in found.items() if it}
 
-    def date(self, value: Any) -> Tree | None:
-        """A date, or `None` if it is in words. Of a range it is the first."""
+    def date(self, value: Any) -> Tree:
+        """A date. Of a range it is the first."""
         if isinstance(value, str):
             value = {"raw": value}
         if not isinstance(value, dict):
             raise Wrong("no date: an object goes here, as {\"date-parts\": [[2014, 5]]}")
-        for it in value:
-            if it not in DATE:
-                raise Wrong(f"no date: {named(it)} is no part of one{self.near(it, DATE)}")
+        self.tell_unknown(value, DATE, "is no part of a date")
         words, is_circa = self.parts(value)
-        if words is None:
-            self.left[WORDS] += 1
-            return None
+        season = None
+        try:
+            season = self.season(value, words)
+        except Wrong as why:
+            self.tell(why)
         is_circa = is_circa or value.get("circa") not in (None, False, "", 0)
-        season = self.season(value, words)
         return {**dict(zip(("year", "month", "day"), words)),
                 **({"season": season} if season else {}), **({"circa": True} if is_circa else {})}
 
-    def parts(self, value: Dict[str, Any]) -> Tuple[List[int] | None, bool]:
-        """The year, the month and the day of a date, or `None` if it is in words, and whether it
-        says that it is about then."""
+    def parts(self, value: Dict[str, Any]) -> Tuple[List[int], bool]:
+        """The year, the month and the day of a date, and whether it says that it is about then."""
         if value.get("date-parts") is not None:
             return self.numbers(value["date-parts"]), False
         text = text_of(value.get("raw") or value.get("literal") or "")
         found = ISO.fullmatch(text)
         if found is None:
-            if value.get("raw") is None and text:
-                return None, False
-            raise Wrong(f"no date: {named(text)}" if text else "no date: it is empty")
+            in_words = f"{named(text)} is in words; in numbers it is as [[2014, 5, 2]]"
+            raise Wrong(f"no date: {in_words if text else 'it is empty'}")
         self.left[RANGES] += "/" in text
         words = [int(it) for it in found.groups()[:3] if it]
         self.check(words)
@@ -250,7 +283,7 @@ class Reader:
         if len(words) > 2 and not 1 <= words[2] <= days_of(*words[:2]):
             raise Wrong(f"no date: the day is {words[2]}")
 
-    def season(self, value: Dict[str, Any], words: List[int]) -> str | None:
+    def season(self, value: Tree, words: List[int]) -> str | None:
         """The season, or `None`. A month that is one is taken from the words."""
         number = value.get("season")
         if len(words) > 1 and words[1] > 12:
@@ -261,7 +294,7 @@ class Reader:
         text = text_of(number).lower()
         text = {"fall": "autumn"}.get(text, text)
         if text not in SEASONS and text not in ("1", "2", "3", "4"):
-            raise Wrong(f"no date: the season {named(text)} is unknown")
+            raise Wrong(f"the season {named(text)} is unknown")
         return text if text in SEASONS else SEASONS[int(text) - 1]
 
 
@@ -326,19 +359,22 @@ class WorksFile:
         at = self.skip(0)
         if self.text[at:at + 1] != "{":
             return at
-        self.value(at)
         members = dict(self.members(at))
         for name in ("items", "references"):
             if name in members and self.text[members[name]] == "[":
                 return members[name]
-        raise Refused(f"{self.place(at)}: {NO_LIST}")
+        return at
 
     def values(self) -> Iterator[Tuple[int, int, Any]]:
-        """The values of the list, each with the places where it begins and ends."""
+        """The values of the list, each with the places where it begins and ends. An object may be
+        the only one."""
         at = self.list_at()
         if self.text[at:at + 1] != "[":
-            self.value(at)
-            raise Refused(f"{self.place(at)}: {NO_LIST}")
+            value, end = self.value(at)
+            if not isinstance(value, dict) or not {"id", "type"} & value.keys():
+                raise Refused(f"{self.place(at)}: {NO_LIST}")
+            yield at, end, value
+            return
         at = self.skip(at + 1)
         while self.text[at:at + 1] != "]":
             value, end = self.value(at)
@@ -354,48 +390,22 @@ class WorksFile:
             raise Refused(f"{self.place(end)}: no JSON: nothing goes after the list")
 
 
-def wrong_type(kind: Any, reader: Reader) -> str:
-    """What is wrong with the type of an item."""
-    if not isinstance(kind, str):
-        return "an item needs a `type`"
-    return f"the type {named(kind)} is unknown{reader.near(kind, NAMES['Kind'])}"
-
-
-def work_of(value: Any, place: str, reader: Reader) -> Union[Work, List[Tuple[str, str]]]:
-    """A work, if nothing is wrong with it, and else what is wrong, each with the name of the
-    variable."""
-    if not isinstance(value, dict):
-        return [("", "an item has to be an object")]
-    name, kind = value.get("id"), value.get("type")
-    if isinstance(name, bool) or not isinstance(name, (str, int)) or cleaned(str(name)) == "":
-        return [("id", "an item needs an `id`")]
-    name, wrong = cleaned(str(name)), []
-    if not isinstance(kind, str) or kind not in NAMES["Kind"]:
-        wrong.append(("type", wrong_type(kind, reader)))
-    found = list(reader.variables(value))
-    wrong += [(written, f"{named(written)}: {it}") for written, _, it in found
-              if isinstance(it, Wrong)]
-    if wrong:
-        return [(it, f"{name[:MOST_LETTERS]}: {why}") for it, why in wrong]
-    variables = {variable: it for _, variable, it in found if it is not None}
-    return Work(place, name, {"type": [kind], "key": name, "variables": variables})
-
-
 def works_of(path: str, left: Counter[str]) -> Tuple[List[Work], List[str]]:
-    """The works of a file, and a line for each thing that is wrong, with its place. A work with
-    something wrong is not among them."""
+    """The works of a file, and a line for each thing that is wrong, with its place. What is wrong
+    is left out. Of items of one `id` the first counts."""
     file, reader = WorksFile(path), Reader(left)
-    found: List[Work] = []
+    found: Dict[str, Work] = {}
     faults: List[str] = []
     try:
         for at, end, value in file.values():
-            work = work_of(value, file.place(at), reader)
-            if isinstance(work, Work):
-                found.append(work)
-                continue
-            for name, why in work:
+            work = reader.work(value, file.place(at))
+            if work and found.setdefault(work.id, work) is not work:
+                reader.wrong[:] = [("id", f"an item of this `id` is there already: "
+                                          f"{found[work.id].place}")]
+            for name, why in reader.wrong:
                 line = file.line_of(name, at, end) if len(faults) < MOST_HINTS else file.line
-                faults.append(f"{path}:{line}: {why}")
+                owner = f"{work.id[:MOST_LETTERS]}: " if work else ""
+                faults.append(f"{path}:{line}: {owner}{why}")
     except Refused as why:
         faults.append(str(why))
-    return found, faults
+    return list(found.values()), faults

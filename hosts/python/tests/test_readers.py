@@ -44,7 +44,8 @@ class Readers(unittest.TestCase):
         style = sulleqti.Style(STYLE, ["en-US"])
         self.assertEqual(sulleqti.rendered(style.tree), value_of("moss.json"))
         self.assertEqual(dict(+style.left), LEFT)
-        self.assertEqual((style.title, style.rights, style.has_notes), ("Moss and <more>", "None.", True))
+        self.assertEqual((style.title, style.rights), ("Moss and <more>", "None."))
+        self.assertTrue(style.has_notes)
 
     def test_places(self):
         """The lines of what pointers lead to."""
@@ -72,12 +73,14 @@ class Readers(unittest.TestCase):
         left = collections.Counter()
         works, faults = sulleqti.works_of(ITEMS, left)
         self.assertEqual([it.tree for it in works], value_of("works.json"))
-        self.assertEqual([it.place for it in works], [f"{ITEMS}:2"])
+        self.assertEqual([it.place for it in works], [f"{ITEMS}:{line}" for line in (2, 14, 16)])
         self.assertEqual(faults, [
+            f"{ITEMS}:11: kwan: `submitted`: no date: `n.d.` is in words; in numbers it is as "
+            "[[2014, 5, 2]]",
             f"{ITEMS}:15: doe: `titel`: the variable is unknown (is it `title`?)",
-            f"{ITEMS}:16: 7: `accessed`: no date: the day is 30"])
-        self.assertEqual(dict(+left), {"markup in texts": 1, "ranges of dates": 1,
-                                       "dates in words": 1})
+            f"{ITEMS}:16: 7: `accessed`: no date: the day is 30",
+            f"{ITEMS}:17: 7: an item of this `id` is there already: {ITEMS}:16"])
+        self.assertEqual(dict(+left), {"markup in texts": 1, "ranges of dates": 1})
 
 
 if __name__ == "__main__":
