@@ -5,7 +5,7 @@ from csl_source import library
 from csl_source.code import (ONE, STEPS, Call, Converted, Expression, Fields, Local, Step, Struct,
                              Vector, comment, function, over, quoted, size, snake, unique)
 from sulleqti.attributes import FORMATTING, INHERITED, Sorts, Tree
-from sulleqti.elements import TARGETS, TESTS, Around
+from sulleqti.elements import TARGETS, TESTS
 from sulleqti.names import SORTS
 
 # What a part is, and the type of it that a function returns.
@@ -286,10 +286,6 @@ class Elements:
 
     def group(self, tree: Tree) -> Part:
         """A group."""
-        if isinstance(tree, Around):
-            inner, nodes = self.part(tree["children"][0]), Local("nodes")
-            steps = [*inner.steps, (nodes, Vector([inner.value()]))]
-            return self.dressed(tree, Call("Group::new", nodes), [], steps, "affixed")
         steps, nodes = self.listed(tree["children"])
         made = Call("Group::new", nodes)
         if tree.get("delimiter"):

@@ -28,10 +28,6 @@ class Scope(NamedTuple):
     is_direct: bool = False
 
 
-class Around(dict):
-    """A group around a node that has both formatting and affixes."""
-
-
 class Elements:
     """Reads elements. `left` counts what the library leaves out, and `places` has the places of
     what is read, by its `id`."""
@@ -65,7 +61,7 @@ class Elements:
         outer = given.taken({**AFFIXES, "display": "Display"})
         if is_split and is_variable:
             inner = {given.node.name: self.made(given.node, value)}
-            return {"group": self.made(given.node, Around({**outer, "children": [inner]}))}
+            return {"group": self.made(given.node, {**outer, "children": [inner]})}
         self.left[INSIDE] += is_split
         return {given.node.name: self.made(given.node, {**value, **outer})}
 
