@@ -54,8 +54,10 @@ class Attributes:
         has_affixes = any(self.rest.get(it) for it in AFFIXES)
         return has_affixes and any(it in self.rest for it in FORMATTING)
 
-    def taken(self, sorts: Sorts) -> Tree:
-        """Those of these attributes that the element has."""
+    def taken(self, sorts: Sorts, needed: str | None = None) -> Tree:
+        """Those of these attributes that the element has. It must have the needed one."""
+        if needed:
+            self.needed(needed)
         given = {name: self.rest.pop(name) for name in sorts if name in self.rest}
         return {name: self.value(name, sorts[name], text) for name, text in given.items()
                 if text or sorts[name] != "affix"}

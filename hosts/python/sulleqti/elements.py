@@ -52,13 +52,16 @@ class Elements:
             node.refuse(f"`{node.name}` is no element that prints")
         return getattr(self, node.name)(Attributes(node, self.left), scope)
 
-    def dressed(self, given: Attributes, value: Tree, is_variable: bool = True) -> Tree:
-        """A node with its formatting, affixes and display. In CSL its affixes are outside of its
-        formatting, so they go to a group around a node that has both. (A group counts as a
-        variable, so no group may be around a node that prints none.)"""
+    def dressed(self, given: Attributes, value: Tree, *inside: str,
+                is_variable: bool = True) -> Tree:
+        """A node with its formatting, affixes and display, in whose element there may be these
+        others. In CSL its affixes are outside of its formatting, so they go to a group around a
+        node that has both. (A group counts as a variable, so no group may be around a node that
+        prints none.)"""
         is_split = given.is_split()
         value.update({**given.formatting(), **given.text_case()})
         outer = given.taken({**AFFIXES, "display": "Display"})
+        given.end(inside)
         if is_split and is_variable:
             inner = {given.node.name: self.made(given.node, value)}
             return {"group": self.made(given.node, {**outer, "children": [inner]})}
@@ -87,27 +90,18 @@ class Elements:
             value["term"] = OTHER_SPELLINGS.get(name, name)
         value.update(given.taken({"quotes": "flag", "strip-periods": "flag"}))
         is_variable = value.get("variable", "year-suffix") != "year-suffix"
-        made = self.dressed(given, value, is_variable)
-        given.end()
-        return made
+        return self.dressed(given, value, is_variable=is_variable)
 
     def number(self, given: Attributes, _: Scope) -> Tree:
         """A number."""
-        given.needed("variable")
-        value = given.taken({"variable": "NumericVariable", "form": "NumberForm"})
-        made = self.dressed(given, value)
-        given.end()
-        return made
+        sorts = {"variable": "NumericVariable", "form": "NumberForm"}
+        return self.dressed(given, given.taken(sorts, "variable"))
 
     def label(self, given: Attributes, scope: Scope | None = None) -> Tree:
         """A label of a number, or, without a scope, of names."""
-        value = {}
-        if scope is not None:
-            given.needed("variable")
-            value = given.taken({"variable": "NumericVariable"})
-        value.update(given.taken({"form": "TermForm", "plural": "LabelPluralize",
-                                  "strip-periods": "flag"}))
-        value.update(self.look(given))
+        sorts = {"form": "TermForm", "plural": "LabelPluralize", "strip-periods": "flag"}
+        variable = {} if scope is None else given.taken({"variable": "NumericVariable"}, "variable")
+        value = {**variable, **given.taken(sorts), **self.look(given)}
         given.end()
         return {"label": self.made(given.node, value)}
 
@@ -121,8 +115,7 @@ class Elements:
 
     def date_part(self, given: Attributes) -> Tree:
         """A part of a date."""
-        given.needed("name")
-        value = given.taken({"name": "DatePartName"})
+        value = given.taken({"name": "DatePartName"}, "name")
         value.update(given.taken({"form": value["name"], "strip-periods": "flag"}))
         value.update(self.look(given))
         given.leave_out("range-delimiter")
@@ -131,22 +124,18 @@ class Elements:
 
     def date(self, given: Attributes, _: Scope) -> Tree:
         """A date: of its own parts, or localized."""
-        given.needed("variable")
         value = given.taken({"variable": "DateVariable", "form": "DateForm",
-                             "date-parts": "DateParts", "delimiter": "text"})
+                             "date-parts": "DateParts", "delimiter": "text"}, "variable")
         if "form" not in value and not len(given.node):
             given.node.refuse("`date` needs a form or parts")
-        made = self.dressed(given, {**value, **self.date_parts(given.node)})
-        given.end(("date-part",))
-        return made
+        return self.dressed(given, {**value, **self.date_parts(given.node)}, "date-part")
 
     # ---- names
 
     def names(self, given: Attributes, scope: Scope) -> Tree:
         """Names. Without children they take those around them. The library does so itself only
         directly in a substitute."""
-        given.needed("variable")
-        value = given.taken({"variable": "NameVariable*", "delimiter": "text"})
+        value = given.taken({"variable": "NameVariable*", "delimiter": "text"}, "variable")
         node, inside = given.node, ("name", "et-al", "label", "substitute")
         read = {"name": self.name, "et-al": self.et_al, "label": self.label}
         for child in node:
@@ -161,9 +150,7 @@ class Elements:
                     for it, child in own]
         is_direct = scope.is_direct and not given.is_split()
         value["children"] = children or ([] if is_direct else list(scope.around))
-        made = self.dressed(given, value)
-        given.end(inside)
-        return made
+        return self.dressed(given, value, *inside)
 
     def name(self, given: Attributes) -> Tree:
         """How names are written: the child `name` of `names`."""
@@ -185,8 +172,7 @@ class Elements:
 
     def name_part(self, given: Attributes) -> Tree:
         """The look of a part of names."""
-        given.needed("name")
-        value = {**given.taken({"name": "NamePartName"}), **self.look(given)}
+        value = {**given.taken({"name": "NamePartName"}, "name"), **self.look(given)}
         given.end()
         return self.made(given.node, value)
 
@@ -207,9 +193,7 @@ class Elements:
         """A group."""
         value = given.taken({"delimiter": "text"})
         value["children"] = self.nodes(given.node, Scope(scope.around))
-        made = self.dressed(given, value)
-        given.end(RENDERED)
-        return made
+        return self.dressed(given, value, *RENDERED)
 
     def branch(self, node: Node, around: Sequence[Tree]) -> Any:
         """A branch of a choice: the nodes of an `else`, or tests and nodes."""

@@ -82,10 +82,8 @@ class Locales:
         Attributes(node, self.left).end(("term",))
         for child in node:
             given = Attributes(child, self.left)
-            given.needed("name")
-            name, texts = given.taken({"name": "text"})["name"], self.texts(child)
-            ordinal = ORDINAL.fullmatch(name)
-            read = self.ordinal if ordinal else self.term
+            name, texts = given.taken({"name": "text"}, "name")["name"], self.texts(child)
+            read = self.ordinal if ORDINAL.fullmatch(name) else self.term
             for value in read(given, name, texts):
                 yield self.elements.made(child, value)
             given.end(("single", "multiple"))
@@ -123,8 +121,7 @@ class Locales:
     def date(self, node: Node) -> Tree:
         """A localized date."""
         given = Attributes(node, self.left)
-        given.needed("form")
-        value = {**given.taken({"form": "DateForm"}), **self.elements.date_parts(node),
+        value = {**given.taken({"form": "DateForm"}, "form"), **self.elements.date_parts(node),
                  **given.taken({"delimiter": "text"}), **given.formatting(),
                  **given.taken(AFFIXES), **given.text_case()}
         given.end(("date-part",))
