@@ -374,11 +374,11 @@ class TrialTests:
         """What has no shape in an item or in a style is written by its number, and no line is forged."""
         hostile = "a\x1b[31m\u202e\nb.json:1: forged"
         shown = r"a [31m\u{202e} b.json:1: forged"
-        items = [{**BOOK, "id": hostile, "title": hostile}, {**BOOK, "id": hostile, hostile: 1},
+        items = [{**BOOK, "id": hostile, "title": hostile}, {**BOOK, "id": f"{hostile}2", hostile: 1},
                  {**BOOK, "title": "\ud800"}]
         status, text, faults = self.of_items(items)
         self.row("a hostile item", (status, text.splitlines()[0]), (1, shown))
-        self.row("a hostile variable", faults, [f":9: {shown}: `{shown}`: the variable is unknown"])
+        self.row("a hostile variable", faults, [f":9: {shown}2: `{shown}`: the variable is unknown"])
         self.row("half of a character", text.splitlines()[-1], "  Ode (2014). \ufffd.")
         self.row("no control characters", set(re.findall("[\0-\x1f\x7f-\x9f\u202e\u2028]", text)), {"\n"})
 
@@ -398,7 +398,7 @@ class TrialTests:
         self.file("hostile.json", json.dumps([{**BOOK, **dict.fromkeys(LONG_NAMES, 1)}], indent=0))
         told = [f"{path}:{line}: b: `{'x' * 60}..`: the variable is unknown"
                 for line in range(18, 28)]
-        self.row("long names", self.cheap(style, path), (1, "", told))
+        self.row("long names", self.cheap(style, path), (1, OF_BOOK, told))
         path = self.file("hostile.json", json.dumps([{**BOOK, "title": "x" * 5_000}]))
         rows = self.file("hostile.rows", f"base (citation {'title ' * 400})\n")
         told = [f"{rows}: it would write too many bytes"]
@@ -438,7 +438,7 @@ class TrialTests:
         """Without the kit, and without a program of an earlier call, there is one line."""
         top = f"{self.room}/no_kit"
         leave_out = shutil.ignore_patterns("out")
-        for it in "crates", "tools":
+        for it in "crates", "hosts", "tools":
             shutil.copytree(f"{TOP}/{it}", f"{top}/{it}", ignore=leave_out)
         shutil.copy2(f"{TOP}/crates.txt", top)
         words = [f"{top}/tools/try", f"{top}/{STYLES}/footnotes.csl"]
