@@ -215,9 +215,7 @@ class Elements:
         if order[:1] != ["if"] or set(middle) - {"else-if"}:
             given.node.refuse("`choose` needs an `if`, then any `else-if`, then at most one `else`")
         first, *rest = [self.branch(child, scope.around) for child in given.node]
-        value = {"if": first}
-        if order[-1] == "else":
-            value["else"] = rest.pop()
-        if rest:
-            value["else-if"] = rest
+        last = [rest.pop()] if order[-1] == "else" else []
+        value = {"if": first, **({"else-if": rest} if rest else {}),
+                 **({"else": last[0]} if last else {})}
         return {"choose": self.made(given.node, value)}

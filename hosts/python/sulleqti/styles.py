@@ -4,11 +4,12 @@ from __future__ import annotations
 import collections
 import graphlib
 import unicodedata
-from typing import Counter, Dict, List, Sequence
+from typing import Counter, Dict, List, Sequence, Tuple
 
 from sulleqti.attributes import INHERITED, Attributes, Tree
 from sulleqti.document import CS, Node, document
 from sulleqti.elements import RENDERED, Elements
+from sulleqti.keys import LIMITS, KeyMacros
 from sulleqti.locales import Locale, Locales, built_in, in_order, language_of, locale_of
 
 # The layouts of a style, in their order, and what says how they are listed.
@@ -83,12 +84,17 @@ class Style:
         self.language = language_of(self.locales[0])
         self.left: Counter[str] = collections.Counter()
         self.elements, self.tree = Elements(self.left), {}
+        # (the keys by a macro that limit names)
+        self.limited: List[Tuple[Tree, Tree]] = []
         macros = macros_of(self.root)
         style = self.tree["style"] = self.settings()
         for name in LAYOUTS:
             if (node := self.root.first(name)) is not None:
                 style[name].update(self.layout(node))
         style["macros"] = [self.macro(it) for it in macros]
+        copies = KeyMacros(style["macros"], self.elements)
+        for key, limits in self.limited:
+            key["macro"] = copies.limited(key["macro"], limits)
         style["locales"] = self.all_locales()
 
     def default_locale(self) -> Locale:
@@ -153,13 +159,18 @@ class Style:
         """A key of a sort: a variable or a macro."""
         given = Attributes(node, self.left)
         value = given.taken({"macro": "text", "variable": "Variable", "sort": "order"})
-        for name in ("names-min", "names-use-first", "names-use-last"):
-            self.left[f"`{name}` of `key`"] += given.rest.pop(name, None) is not None
+        found = given.taken({"names-min": "number", "names-use-first": "number",
+                             "names-use-last": "flag"})
         given.end()
         if "variable" not in value and "macro" not in value:
             node.refuse("`key` needs a `variable` or a `macro`")
         if "variable" in value:
             value.pop("macro", None)
+            for name in found:
+                self.left[f"`{name}` of a `key` by a variable"] += 1
+        elif found:
+            limits = {it: found[name] for name in found for it in LIMITS[name]}
+            self.limited.append((value, limits))
         return self.elements.made(node, value)
 
     def macro(self, node: Node) -> Tree:

@@ -10,7 +10,7 @@ import sulleqti
 HERE = os.path.dirname(os.path.abspath(__file__))
 STYLE, ITEMS = f"{HERE}/moss.csl", f"{HERE}/items.json"
 # What is left out of the style.
-LEFT = {"`text-case`": 2, "`names-min` of `key`": 1, "the term `film`": 1,
+LEFT = {"`text-case`": 2, "`names-min` of a `key` by a variable": 1, "the term `film`": 1,
         "terms of locales that the library does not name": 1, "`locale` of another language": 1,
         "`font-style` oblique (written as italic)": 1}
 # Pointers into the style, and the lines of what they lead to.
