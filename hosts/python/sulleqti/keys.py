@@ -1,5 +1,5 @@
 """Keys of a sort that limit the names that they sort by (CSL 1.0.2, Sorting: names-min,
-names-use-first, names-use-last). Such a key by a macro gets a macro of its own, with these limits."""
+names-use-first, names-use-last). Such a key by a macro gets a macro of its own, with them."""
 from __future__ import annotations
 
 import copy
@@ -72,8 +72,8 @@ class KeyMacros:
     def copy_of(self, macro: Tree, name: str) -> Tree:
         """A copy of a macro, of another name, which is a macro of the style from now on."""
         made = copy.deepcopy(macro)
-        pairs = [((macro, made)), *((old, new) for (_, old), (_, new)
-                                    in zip(nodes_in(macro), nodes_in(made)))]
+        pairs = [(macro, made), *((old, new) for (_, old), (_, new)
+                                  in zip(nodes_in(macro), nodes_in(made)))]
         self.places.update({id(new): self.places.get(id(old), self.places[id(macro)])
                             for old, new in pairs})
         self.copied += len(pairs)
