@@ -9,10 +9,11 @@ from csl_source.attributes import FORMATTING
 from csl_source.code import comment
 from csl_source.document import CS, LANGUAGE, Node, document
 from csl_source.elements import Scope, handed_down
+from csl_source.key_names import limit_keys
 from csl_source.locales import (OPTIONS, ORDINAL, BuiltIn, built_in, locale_of, locales_in_order,
                                 options_of)
 from csl_source.notation import CONTROL, Form, attribute, filled, in_quotes
-from csl_source.styles import LAYOUTS, TEXTS, Style, info_of, plain
+from csl_source.styles import LAYOUTS, TEXTS, Style, info_of, macros_of, plain
 
 NAME_OPTIONS = ("and", "delimiter-precedes-et-al", "delimiter-precedes-last", "et-al-min",
                 "et-al-use-first", "et-al-subsequent-min", "et-al-subsequent-use-first",
@@ -50,6 +51,7 @@ class Rows:
         # (the other writer reads each attribute, and so refuses what is no CSL)
         style = Style(path, [(locale or path, self.locale)])
         style.text()
+        limit_keys(self.root, macros_of(self.root))
         self.left, self.language = style.left, self.locale.get(LANGUAGE, "")
 
     def default_locale(self) -> Node:

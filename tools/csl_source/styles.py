@@ -10,6 +10,7 @@ from csl_source.code import (Call, Expression, Local, Step, Struct, Vector, comm
                              lines_of, over, quoted, snake, unique)
 from csl_source.document import CS, LANGUAGE, Node, document
 from csl_source.elements import RENDERED, Elements
+from csl_source.key_names import limit_keys
 from csl_source.locales import HELPERS, BuiltIn, Locales, locales_in_order, options_of
 
 # The layouts of a style, in their order.
@@ -106,6 +107,7 @@ class Style:
     def text(self) -> str:
         """The text of the file, or of the module."""
         macros = macros_of(self.root)
+        limit_keys(self.root, macros)
         given = Attributes(self.root, self.left)
         settings = self.settings(given)
         given.end(("info", "locale", "macro", "citation", "bibliography"))

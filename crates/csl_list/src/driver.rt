@@ -143,6 +143,7 @@ fn bibliography_of<T: EntryLike>(
     style: &ListStyle,
     works: &[T],
     identities: &[Identity],
+    told: &[ToldCite],
     order: &[usize],
 ) -> Result<Option<RenderedBibliography>, ListError>
     requires works { All (λ work. work < length works.now) order.now }
@@ -162,7 +163,7 @@ fn bibliography_of<T: EntryLike>(
         return Ok(None);
     }
     let items = items(
-        alloc, renderer, own_style, options, works, order, identities,
+        alloc, renderer, own_style, options, works, order, identities, told,
     )?;
     Ok(Some(RenderedBibliography {
         hanging_indent: options.hanging_indent,
@@ -266,6 +267,7 @@ impl<'d> BibliographyDriver<'d> {
             style,
             works,
             &identities,
+            &told,
             &order,
         )?;
         Ok(RenderedList {

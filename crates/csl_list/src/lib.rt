@@ -18,6 +18,7 @@ mod given_names;
 mod identity;
 mod keys;
 mod likeness;
+mod line_names;
 mod list_style;
 mod listed;
 mod locator;

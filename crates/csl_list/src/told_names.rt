@@ -51,7 +51,7 @@ fn names_beside<'t>(
     work: usize,
 ) -> Option<&'t AddedNames> {
     let identity = identities.get(work)?;
-    if identity.year_suffix.is_none() && !identity.chooses {
+    if !identity.is_marked() {
         return None;
     }
     let cite = told.get(identity.number.get() as usize)?;
@@ -60,7 +60,11 @@ fn names_beside<'t>(
 
 /// Puts names in the place of those that a cite begins with, if both are of one variable: if the
 /// author is suppressed, it may begin with other names.
-fn put_names(alloc: Global, cite: &mut ElemChildren, names: &AddedNames) -> Result<(), Memory> {
+pub(crate) fn put_names(
+    alloc: Global,
+    cite: &mut ElemChildren,
+    names: &AddedNames,
+) -> Result<(), Memory> {
     let Some(own) = cite.find_names_mut() else {
         return Ok(());
     };
