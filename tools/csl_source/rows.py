@@ -26,17 +26,19 @@ AFFIXES = ("prefix", "suffix")
 # The attributes of each element that the notation has, beside a formatting. Affixes may go to a
 # group around it.
 OWN = {
-    "text": ("form", "plural", "quotes", "strip-periods"),
-    "number": ("form",),
-    "label": ("form", "plural", "strip-periods"),
+    "text": ("form", "plural", "quotes", "strip-periods", "text-case"),
+    "number": ("form", "text-case"),
+    "label": ("form", "plural", "strip-periods", "text-case"),
     "date": ("form", "date-parts", "delimiter"),
-    "date-part": ("form", "strip-periods"),
+    "date-part": ("form", "strip-periods", "text-case"),
     "names": ("delimiter",),
     "name": ("form", "delimiter", *NAME_OPTIONS),
     "group": ("delimiter",),
 }
 TESTS = ("match", "disambiguate", "is-numeric", "is-uncertain-date", "locator", "position", "type",
          "variable")
+# The variables whose texts are links: a case would change what is around the address.
+LINKS = ("DOI", "PMCID", "PMID", "URL")
 BREAKS = "line breaks and other control characters in texts (written as spaces)"
 
 
@@ -53,6 +55,7 @@ class Rows:
         style.text()
         limit_keys(self.root, macros_of(self.root))
         self.left, self.language = style.left, self.locale.get(LANGUAGE, "")
+        self.left.pop("`text-case`", None)
 
     def default_locale(self) -> Node:
         """The library's locale for the style's language, or else English."""
@@ -118,7 +121,8 @@ class Rows:
         """A node with its attributes. In CSL affixes are outside of the formatting, so they go to a
         group around a node that has both."""
         outer = self.attributes(node, (*AFFIXES, "display"))
-        form.attributes += self.attributes(node, (*OWN[node.name], *FORMATTING))
+        own = [it for it in OWN[node.name] if it != "text-case" or node.get("variable") not in LINKS]
+        form.attributes += self.attributes(node, (*own, *FORMATTING))
         if self.is_split(node) and is_variable:
             return Form("group", outer, [form])
         form.attributes += outer
@@ -180,7 +184,7 @@ class Rows:
 
     def name(self, node: Node) -> Form:
         """How names are written: the child `name` of `names`."""
-        look = (*FORMATTING, *AFFIXES)
+        look = ("text-case", *FORMATTING, *AFFIXES)
         parts = [Form(f"name-part {part.get('name')}", self.attributes(part, look))
                  for part in node]
         return Form("name", self.attributes(node, (*OWN["name"], *FORMATTING)), parts)

@@ -8,6 +8,7 @@
 #![tactic(auto)]
 
 mod bibliography;
+mod cases;
 mod citation;
 mod cite;
 mod collapse;

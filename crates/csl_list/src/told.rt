@@ -6,6 +6,7 @@ ghost use Rattle.std.specs.List.{All};
 ghost use Rattle.csl_list.specs.Errors.{IsListingError};
 ghost use Rattle.csl_list.specs.Told as spec;
 
+use crate::cases::set_cases_of_work;
 use crate::equal::first_equals;
 use crate::error::ListError;
 use crate::given_names::{cited_names, steps_of_names};
@@ -37,6 +38,15 @@ pub(crate) struct ToldCite {
     pub added: Option<AddedNames>,
 }
 
+/// The works of a list, and its order.
+pub(crate) struct OrderedWorks<'w, T> {
+    pub works: &'w [T],
+    /// The indices of the works in the order of the list.
+    pub order: &'w [usize],
+    /// Whether works are English that do not say so themselves.
+    pub is_english: bool,
+}
+
 /// More of the names of a cite.
 #[derive(Clone, Copy)]
 enum More {
@@ -50,6 +60,7 @@ enum More {
 fn cite_in_state<T: EntryLike>(
     alloc: Global,
     renderer: &mut Renderer<'_>,
+    list: &OrderedWorks<'_, T>,
     work: &T,
     place: usize,
     disambiguation: DisambiguateState,
@@ -68,7 +79,8 @@ fn cite_in_state<T: EntryLike>(
         props.speculative.disambiguation,
         DisambiguateState::NameDisambiguation(_)
     );
-    let Rendered { content, state } = renderer.cite(alloc, work, &props)?;
+    let Rendered { mut content, state } = renderer.cite(alloc, work, &props)?;
+    set_cases_of_work(alloc, &mut content, work, list.is_english)?;
     Ok(ToldCite {
         text: content.to_text(alloc, BufWriteFormat::Plain)?,
         names: whole_names(alloc, &content)?,
@@ -82,6 +94,7 @@ fn cite_in_state<T: EntryLike>(
 fn named_cite<T: EntryLike>(
     alloc: Global,
     renderer: &mut Renderer<'_>,
+    list: &OrderedWorks<'_, T>,
     work: &T,
     place: usize,
     forms: NameDisambiguationProperties,
@@ -89,7 +102,7 @@ fn named_cite<T: EntryLike>(
     ensures err { IfErr result IsListingError }
 {
     let state = DisambiguateState::NameDisambiguation(forms.clone(alloc)?);
-    let cite = cite_in_state(alloc, renderer, work, place, state)?;
+    let cite = cite_in_state(alloc, renderer, list, work, place, state)?;
     let ToldCite {
         text,
         names,
@@ -109,17 +122,16 @@ fn named_cite<T: EntryLike>(
 fn first_cites<T: EntryLike>(
     alloc: Global,
     renderer: &mut Renderer<'_>,
-    works: &[T],
-    order: &[usize],
+    list: &OrderedWorks<'_, T>,
 ) -> Result<Vec<ToldCite>, ListError>
-    requires { All (λ work. work < length works.now) order.now }
-    ensures len { IfOk result (λ told. length told.items ≡ length order.now) }
+    requires { All (λ work. work < length list.now.works.now) list.now.order.now }
+    ensures len { IfOk result (λ told. length told.items ≡ length list.now.order.now) }
     ensures err { IfErr result IsListingError }
 {
-    let mut told = Vec::with_capacity(alloc, order.len())?;
-    for (place, work) in order.iter().enumerate() {
-        let state = DisambiguateState::None;
-        told.push(cite_in_state(alloc, renderer, &works[*work], place, state)?)?;
+    let mut told = Vec::with_capacity(alloc, list.order.len())?;
+    for (place, work) in list.order.iter().enumerate() {
+        let (work, state) = (&list.works[*work], DisambiguateState::None);
+        told.push(cite_in_state(alloc, renderer, list, work, place, state)?)?;
     }
     Ok(told)
 }
@@ -247,6 +259,7 @@ fn fuller_forms(
 fn fuller_cite<T: EntryLike>(
     alloc: Global,
     renderer: &mut Renderer<'_>,
+    list: &OrderedWorks<'_, T>,
     work: &T,
     place: usize,
     told: &ToldCite,
@@ -259,22 +272,21 @@ fn fuller_cite<T: EntryLike>(
     };
     match fuller_forms(alloc, forms, more)? {
         None => Ok(None),
-        Some(fuller) => Ok(Some(named_cite(alloc, renderer, work, place, fuller)?)),
+        Some(fuller) => Ok(Some(named_cite(alloc, renderer, list, work, place, fuller)?)),
     }
 }
 
 /// The work at a place of a list.
-fn work_at<'w, T>(works: &'w [T], order: &[usize], place: usize) -> Option<&'w T> {
-    let work = order.get(place)?;
-    works.get(*work)
+fn work_at<'w, T>(list: &OrderedWorks<'w, T>, place: usize) -> Option<&'w T> {
+    let work = list.order.get(place)?;
+    list.works.get(*work)
 }
 
 /// The cites at these places with more of their names.
 fn fuller_cites<T: EntryLike>(
     alloc: Global,
     renderer: &mut Renderer<'_>,
-    works: &[T],
-    order: &[usize],
+    list: &OrderedWorks<'_, T>,
     told: &[ToldCite],
     places: &[usize],
     more: More,
@@ -283,8 +295,8 @@ fn fuller_cites<T: EntryLike>(
 {
     let mut fuller = Vec::with_capacity(alloc, places.len())?;
     for place in places {
-        fuller.push(match (work_at(works, order, *place), told.get(*place)) {
-            (Some(work), Some(own)) => fuller_cite(alloc, renderer, work, *place, own, more)?,
+        fuller.push(match (work_at(list, *place), told.get(*place)) {
+            (Some(work), Some(own)) => fuller_cite(alloc, renderer, list, work, *place, own, more)?,
             _ => None,
         })?;
     }
@@ -351,8 +363,7 @@ fn put(told: &mut [ToldCite], place: Option<&usize>, fuller: Option<ToldCite>) {
 fn show_more<T: EntryLike>(
     alloc: Global,
     renderer: &mut Renderer<'_>,
-    works: &[T],
-    order: &[usize],
+    list: &OrderedWorks<'_, T>,
     told: &mut Vec<ToldCite>,
     places: &[usize],
     more: More,
@@ -360,7 +371,7 @@ fn show_more<T: EntryLike>(
     ensures err { IfErr result IsListingError }
 {
     let firsts = first_equal_cites(alloc, told, places)?;
-    let fuller = fuller_cites(alloc, renderer, works, order, told, places, more)?;
+    let fuller = fuller_cites(alloc, renderer, list, told, places, more)?;
     let splits = splits(alloc, told, places, &firsts, &fuller)?;
     let mut index: usize = 0;
     for cite in fuller {
@@ -385,8 +396,7 @@ fn all_places(alloc: Global, count: usize) -> Result<Vec<usize>, Memory> {
 fn add_names<T: EntryLike>(
     alloc: Global,
     renderer: &mut Renderer<'_>,
-    works: &[T],
-    order: &[usize],
+    list: &OrderedWorks<'_, T>,
     told: &mut Vec<ToldCite>,
 ) -> Result<(), ListError>
     ensures err { IfErr result IsListingError }
@@ -396,7 +406,7 @@ fn add_names<T: EntryLike>(
     let most = most_names(told, &places);
     for name in 1..most {
         let more = More::Names(name.saturating_add(1));
-        show_more(alloc, renderer, works, order, told, &places, more)?;
+        show_more(alloc, renderer, list, told, &places, more)?;
         places = ambiguous(alloc, told, &places)?;
     }
     Ok(())
@@ -406,8 +416,7 @@ fn add_names<T: EntryLike>(
 fn add_given_names<T: EntryLike>(
     alloc: Global,
     renderer: &mut Renderer<'_>,
-    works: &[T],
-    order: &[usize],
+    list: &OrderedWorks<'_, T>,
     told: &mut Vec<ToldCite>,
 ) -> Result<(), ListError>
     ensures err { IfErr result IsListingError }
@@ -417,7 +426,7 @@ fn add_given_names<T: EntryLike>(
     for name in 0..most_names(told, &places) {
         for steps in 1..3 {
             let more = More::Given(name, steps);
-            show_more(alloc, renderer, works, order, told, &places, more)?;
+            show_more(alloc, renderer, list, told, &places, more)?;
             places = ambiguous(alloc, told, &places)?;
         }
     }
@@ -454,16 +463,15 @@ fn expand_at(told: &mut [ToldCite], place: usize, name: usize, steps: usize) -> 
 /// Expands the names that are those of several persons of the document, by at most so many steps.
 fn expand_names<T: EntryLike>(
     alloc: Global,
-    works: &[T],
-    order: &[usize],
+    list: &OrderedWorks<'_, T>,
     told: &mut Vec<ToldCite>,
     is_primary: bool,
     most: usize,
 ) -> Result<(), ListError>
-    requires order { All (λ work. work < length works.now) order.now }
+    requires order { All (λ work. work < length list.now.works.now) list.now.order.now }
     ensures err { IfErr result IsListingError }
 {
-    let names = cited_names(alloc, works, order, told, is_primary)?;
+    let names = cited_names(alloc, list.works, list.order, told, is_primary)?;
     let steps = steps_of_names(alloc, &names)?;
     for (name, steps) in names.iter().zip(&steps) {
         let _has_changed = expand_at(told, name.place, name.name, most.min(*steps));
@@ -475,6 +483,7 @@ fn expand_names<T: EntryLike>(
 fn rendered_anew<T: EntryLike>(
     alloc: Global,
     renderer: &mut Renderer<'_>,
+    list: &OrderedWorks<'_, T>,
     work: &T,
     place: usize,
     cite: ToldCite,
@@ -492,7 +501,7 @@ fn rendered_anew<T: EntryLike>(
         added,
     } = cite;
     match forms {
-        Some(forms) => named_cite(alloc, renderer, work, place, forms),
+        Some(forms) => named_cite(alloc, renderer, list, work, place, forms),
         None => Ok(ToldCite {
             text,
             names,
@@ -507,8 +516,7 @@ fn rendered_anew<T: EntryLike>(
 fn with_expanded<T: EntryLike>(
     alloc: Global,
     renderer: &mut Renderer<'_>,
-    works: &[T],
-    order: &[usize],
+    list: &OrderedWorks<'_, T>,
     told: Vec<ToldCite>,
 ) -> Result<Vec<ToldCite>, ListError>
     ensures err { IfErr result IsListingError }
@@ -516,8 +524,8 @@ fn with_expanded<T: EntryLike>(
     let mut anew = Vec::with_capacity(alloc, told.len())?;
     for cite in told {
         let place = anew.len();
-        anew.push(match work_at(works, order, place) {
-            Some(work) => rendered_anew(alloc, renderer, work, place, cite)?,
+        anew.push(match work_at(list, place) {
+            Some(work) => rendered_anew(alloc, renderer, list, work, place, cite)?,
             None => cite,
         })?;
     }
@@ -530,23 +538,22 @@ pub(crate) fn told_cites<T: EntryLike>(
     alloc: Global,
     renderer: &mut Renderer<'_>,
     options: &CitationOptions,
-    works: &[T],
-    order: &[usize],
+    list: &OrderedWorks<'_, T>,
 ) -> Result<Vec<ToldCite>, ListError>
-    requires order { All (λ work. work < length works.now) order.now }
+    requires order { All (λ work. work < length list.now.works.now) list.now.order.now }
     ensures err { IfErr result IsListingError }
 {
-    let mut told = first_cites(alloc, renderer, works, order)?;
+    let mut told = first_cites(alloc, renderer, list)?;
     let expansion = expansion_of(options.given_name_rule);
     if let (true, Some((is_primary, most))) = (options.adds_given_names, expansion) {
-        expand_names(alloc, works, order, &mut told, is_primary, most)?;
-        told = with_expanded(alloc, renderer, works, order, told)?;
+        expand_names(alloc, list, &mut told, is_primary, most)?;
+        told = with_expanded(alloc, renderer, list, told)?;
     }
     if options.adds_names {
-        add_names(alloc, renderer, works, order, &mut told)?;
+        add_names(alloc, renderer, list, &mut told)?;
     }
     if options.adds_given_names && expansion.is_none() {
-        add_given_names(alloc, renderer, works, order, &mut told)?;
+        add_given_names(alloc, renderer, list, &mut told)?;
     }
     Ok(told)
 }
@@ -555,18 +562,17 @@ pub(crate) fn told_cites<T: EntryLike>(
 fn chosen_cites<T: EntryLike>(
     alloc: Global,
     renderer: &mut Renderer<'_>,
-    works: &[T],
-    order: &[usize],
+    list: &OrderedWorks<'_, T>,
     places: &[usize],
 ) -> Result<Vec<Option<ToldCite>>, ListError>
     ensures err { IfErr result IsListingError }
 {
     let mut chosen = Vec::with_capacity(alloc, places.len())?;
     for place in places {
-        chosen.push(match work_at(works, order, *place) {
+        chosen.push(match work_at(list, *place) {
             Some(work) => {
                 let state = DisambiguateState::Choose;
-                Some(cite_in_state(alloc, renderer, work, *place, state)?)
+                Some(cite_in_state(alloc, renderer, list, work, *place, state)?)
             }
             None => None,
         })?;
@@ -579,8 +585,7 @@ fn chosen_cites<T: EntryLike>(
 pub(crate) fn choices<T: EntryLike>(
     alloc: Global,
     renderer: &mut Renderer<'_>,
-    works: &[T],
-    order: &[usize],
+    list: &OrderedWorks<'_, T>,
     told: &[ToldCite],
 ) -> Result<Vec<bool>, ListError>
     ensures err { IfErr result IsListingError }
@@ -588,7 +593,7 @@ pub(crate) fn choices<T: EntryLike>(
     let all = all_places(alloc, told.len())?;
     let places = ambiguous(alloc, told, &all)?;
     let firsts = first_equal_cites(alloc, told, &places)?;
-    let chosen = chosen_cites(alloc, renderer, works, order, &places)?;
+    let chosen = chosen_cites(alloc, renderer, list, &places)?;
     let splits = splits(alloc, told, &places, &firsts, &chosen)?;
     let mut choices = vec![in alloc; false; told.len()]?;
     for (index, place) in places.iter().enumerate() {
