@@ -39,6 +39,7 @@ pub(crate) struct ToldCite {
 }
 
 /// The works of a list, and its order.
+#[derive(Drop)]
 pub(crate) struct OrderedWorks<'w, T> {
     pub works: &'w [T],
     /// The indices of the works in the order of the list.
