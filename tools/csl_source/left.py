@@ -12,7 +12,7 @@ SEEN = (
     ("dates are missing that are in words", "dates in words"),
     ("ranges of dates are cut to their first date", "ranges of dates"),
     ("markup inside of titles is dropped", "markup in texts"),
-    ("names are sorted as they print", "`names-(min|use-first|use-last)` of `key`"),
+    ("names are sorted as they print", "`names-(min|use-first|use-last)` of a `key` by a variable"),
     ("texts before and after names are missing", "affixes of `name`"),
     ("texts before and after a part are formatted like the part", "affixes outside of the formatting"),
     ("slanted text is italic", "`font-style` oblique .*"),

@@ -10,7 +10,7 @@ from csl_source.code import (Call, Expression, Local, Step, Struct, Vector, comm
                              lines_of, over, quoted, snake, unique)
 from csl_source.document import CS, LANGUAGE, Node, document
 from csl_source.elements import RENDERED, Elements
-from csl_source.key_names import limit_keys
+from csl_source.key_names import LIMITS, limit_keys
 from csl_source.locales import HELPERS, BuiltIn, Locales, locales_in_order, options_of
 
 # The layouts of a style, in their order.
@@ -107,12 +107,18 @@ class Style:
     def text(self) -> str:
         """The text of the file, or of the module."""
         macros = macros_of(self.root)
+        own = list(macros)
         limit_keys(self.root, macros)
         given = Attributes(self.root, self.left)
         settings = self.settings(given)
         given.end(("info", "locale", "macro", "citation", "bibliography"))
         layouts = [self.layout(name) for name in LAYOUTS]
-        added = self.macro_lists([self.macro(name, node) for name, node in macros.items()])
+        calls = [self.macro(name, macros[name]) for name in own]
+        # (what is left out of copies is counted already)
+        self.elements.left = collections.Counter()
+        calls += [self.macro(name, node) for name, node in macros.items() if name not in own]
+        self.elements.left = self.left
+        added = self.macro_lists(calls)
         names = [name for name, _ in added]
         main = self.main(bool(settings), names, layouts, self.locale_calls())
         blocks = [main, *lists.list_style(self.root, self.options, self.indent)]
@@ -233,13 +239,13 @@ class Style:
             for name in ("macro", "variable"):
                 given.text(name)
             given.one_of("sort", {"ascending": None, "descending": None})
-            for name in ("names-min", "names-use-first", "names-use-last"):
-                self.left[f"`{name}` of `key`"] += given.text(name) is not None
+            for name in LIMITS:
+                self.left[f"`{name}` of a `key` by a variable"] += given.text(name) is not None
             given.end()
 
     def macro(self, name: str, node: Node) -> str:
         """A call of the function that returns a macro."""
-        given = Attributes(node, self.left)
+        given = Attributes(node, self.elements.left)
         given.text("name")
         given.end(RENDERED)
         word = snake(name, "macro").rstrip("_")

@@ -16,7 +16,9 @@ pub enum KeySource {
     Variable(Variable),
 }
 
-/// A key that works or cites are sorted by (CSL 1.0.2, Sorting).
+/// A key that works or cites are sorted by (CSL 1.0.2, Sorting). For one that limits names
+/// (`names-min`, `names-use-first`, `names-use-last`) take a macro with these limits, as
+/// `tools/style` does.
 #[derive(Drop)]
 pub struct SortKey {
     /// The source of its text.
