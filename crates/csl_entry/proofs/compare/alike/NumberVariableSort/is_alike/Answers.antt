@@ -1,5 +1,5 @@
 use Rattle.csl_entry.proofs.AlikeSets.{decides_at}
-use Rattle.csl_entry.proofs.compare.alike.is_number_alike.Goals as goal
+use Rattle.csl_entry.proofs.compare.alike.NumberVariableSort.is_alike.Goals as goal
 
 pub returns : goal.returns
 returns g c = decides_at _ _ _ _ _ c.same_number.ensures c.in_ok-left.ensures c.in_ok-right.ensures
