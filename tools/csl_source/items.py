@@ -374,7 +374,9 @@ def item_of(value: Any, place: str, reader: Reader) -> tuple["Item | None", list
     wrong += [(written, f"{named(written)}: {it}") for written, it in forms if isinstance(it, Wrong)]
     if wrong:
         return None, [(it, f"{name[:MOST_LETTERS]}: {why}") for it, why in wrong]
-    entry = " ".join([f"type={kind}", *(it for _, it in forms if it)])
+    language = value.get("language")
+    is_english = [f"english={str(language.lower().startswith('en')).lower()}"] if isinstance(language, str) and language else []
+    entry = " ".join([f"type={kind}", *is_english, *(it for _, it in forms if it)])
     return Item(place, name, entry), []
 
 

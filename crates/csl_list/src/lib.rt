@@ -1,5 +1,6 @@
 //! The citations and the bibliography of a document, by CSL 1.0.2: sorted, numbered, with positions
-//! and affixes, told apart by names, year suffixes and branches, collapsed, and finished.
+//! and affixes, told apart by names, year suffixes and branches, collapsed, in their cases, and
+//! finished.
 //!
 //! [`ListStyle::new`] joins a style with its options. A [`BibliographyDriver`] takes the citations
 //! of a document, and [`BibliographyDriver::finish`] renders them with the bibliography.
