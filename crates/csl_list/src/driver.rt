@@ -19,6 +19,7 @@ use crate::listed::{ListedWorks, check_works, cited_works, first_cites, listed_w
 use crate::position::CitesSoFar;
 use crate::rendered::{RenderedBibliography, RenderedCitation, RenderedList};
 use crate::request::CitationRequest;
+use crate::telling::telling_cites;
 use crate::told::{ToldCite, choices, told_cites};
 use crate::year_suffix::year_suffixes;
 use csl::Renderer;
@@ -187,8 +188,8 @@ impl<'d> BibliographyDriver<'d> {
     }
 
     /// The driver with a limit: the cites, works and sort keys of a list may write so many bytes in
-    /// all. Cites that are rendered to tell works apart count too: one of each work, and of works
-    /// with equal cites one for each name that is added. [`csl::context::Context::limit`] says what
+    /// all. Cites that are rendered to tell works apart count too: one of each work, in notes two,
+    /// and of works with equal cites one for each name that is added. [`csl::context::Context::limit`] says what
     /// takes how many. Texts of the author around cites, and finishing, take none.
     pub fn limited(self, bytes: u64) -> BibliographyDriver<'d>
         ensures requests { spec.requests_of result ≡ spec.requests_of self.entry }
@@ -250,7 +251,8 @@ impl<'d> BibliographyDriver<'d> {
         let requests = self.requests.as_slice();
         let order = listed_order(alloc, &mut renderer, style, works, requests, listed)?;
         let options = style.citation();
-        let told = told_cites(alloc, &mut renderer, options, works, &order)?;
+        let telling = telling_cites(alloc, requests, works.len())?;
+        let told = told_cites(alloc, &mut renderer, options, works, &order, &telling)?;
         let identities = identities(alloc, &mut renderer, style, works, &order, &told)?;
         let citations = citations_of(
             alloc,

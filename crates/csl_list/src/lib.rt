@@ -29,6 +29,7 @@ mod rendered;
 mod request;
 mod style_error;
 mod substitute;
+mod telling;
 mod told;
 mod told_names;
 mod year_suffix;

@@ -1,4 +1,4 @@
-//! First cites that are told apart by their names (CSL 1.0.2, Disambiguation:
+//! Cites that are told apart by their names (CSL 1.0.2, Disambiguation:
 //! disambiguate-add-names, disambiguate-add-givenname, givenname-disambiguation-rule).
 
 ghost use Rattle.std.specs.Prelude.{◌≡◌, ◌<◌, IfOk, IfErr, length};
@@ -9,22 +9,24 @@ ghost use Rattle.csl_list.specs.Told as spec;
 use crate::equal::first_equals;
 use crate::error::ListError;
 use crate::given_names::{cited_names, steps_of_names};
-use crate::identity::{Identity, number_at};
+use crate::identity::number_at;
 use crate::options::{CitationOptions, GivenNameRule};
 use crate::substitute::whole_names;
+use crate::telling::TellingCite;
 use crate::told_names::{AddedNames, added_names};
 use csl::{Rendered, Renderer};
 use csl_common::Memory;
-use csl_entry::{
-    CiteProperties, DisambiguateState, EntryLike, NameDisambiguationProperties,
-    SpeculativeCiteProperties,
-};
+use csl_entry::{DisambiguateState, EntryLike, NameDisambiguationProperties};
 use csl_tree::BufWriteFormat;
 use std::alloc::Global;
 
-/// The first cite of a work, as far as it is told apart from others.
+/// The cite of a work, as far as it is told apart from others.
 #[derive(Drop)]
 pub(crate) struct ToldCite {
+    /// Which cite it is.
+    pub telling: TellingCite,
+    /// Whether a first cite of the work is the same.
+    pub is_first_too: bool,
     /// The cite as a plain text.
     pub text: String,
     /// The names that it begins with, as a plain text. The text is empty if it has none.
@@ -46,30 +48,26 @@ enum More {
     Given(usize, usize),
 }
 
-/// The first cite of the work at a place, in this state.
+/// The cite of the work at a place, in this state.
 fn cite_in_state<T: EntryLike>(
     alloc: Global,
     renderer: &mut Renderer<'_>,
     work: &T,
     place: usize,
+    telling: TellingCite,
     disambiguation: DisambiguateState,
 ) -> Result<ToldCite, ListError>
     ensures err { IfErr result IsListingError }
 {
-    let first = Identity::numbered(number_at(place)?).first_cite();
-    let props = CiteProperties {
-        certain: first.certain,
-        speculative: SpeculativeCiteProperties {
-            disambiguation,
-            ..first.speculative
-        },
-    };
+    let props = telling.properties(number_at(place)?, disambiguation);
     let is_named = matches!(
         props.speculative.disambiguation,
         DisambiguateState::NameDisambiguation(_)
     );
     let Rendered { content, state } = renderer.cite(alloc, work, &props)?;
     Ok(ToldCite {
+        telling,
+        is_first_too: true,
         text: content.to_text(alloc, BufWriteFormat::Plain)?,
         names: whole_names(alloc, &content)?,
         forms: state.first_names,
@@ -78,18 +76,19 @@ fn cite_in_state<T: EntryLike>(
     })
 }
 
-/// The first cite of the work at a place, with these forms of its names.
+/// The same cite of the work at a place, with these forms of its names.
 fn named_cite<T: EntryLike>(
     alloc: Global,
     renderer: &mut Renderer<'_>,
     work: &T,
     place: usize,
+    (telling, is_first_too): (TellingCite, bool),
     forms: NameDisambiguationProperties,
 ) -> Result<ToldCite, ListError>
     ensures err { IfErr result IsListingError }
 {
     let state = DisambiguateState::NameDisambiguation(forms.clone(alloc)?);
-    let cite = cite_in_state(alloc, renderer, work, place, state)?;
+    let cite = cite_in_state(alloc, renderer, work, place, telling, state)?;
     let ToldCite {
         text,
         names,
@@ -97,6 +96,8 @@ fn named_cite<T: EntryLike>(
         ..
     } = cite;
     Ok(ToldCite {
+        telling,
+        is_first_too,
         text,
         names,
         forms: Some(forms),
@@ -105,21 +106,49 @@ fn named_cite<T: EntryLike>(
     })
 }
 
-/// The first cites of the works of a list, in its order, as the style has them.
-fn first_cites<T: EntryLike>(
+/// The cite of the work at a place, as the style has it.
+fn plain_cite<T: EntryLike>(
+    alloc: Global,
+    renderer: &mut Renderer<'_>,
+    work: &T,
+    place: usize,
+    telling: TellingCite,
+) -> Result<ToldCite, ListError>
+    ensures err { IfErr result IsListingError }
+{
+    let mut cite = cite_in_state(
+        alloc,
+        renderer,
+        work,
+        place,
+        telling,
+        DisambiguateState::None,
+    )?;
+    if let TellingCite::Later(_) = telling {
+        let (first, state) = (TellingCite::First, DisambiguateState::None);
+        let first = cite_in_state(alloc, renderer, work, place, first, state)?;
+        cite.is_first_too = first.text == cite.text;
+    }
+    Ok(cite)
+}
+
+/// The cites of the works of a list, in its order, as the style has them. `telling` says of each
+/// work which cite it is.
+fn plain_cites<T: EntryLike>(
     alloc: Global,
     renderer: &mut Renderer<'_>,
     works: &[T],
     order: &[usize],
+    telling: &[TellingCite],
 ) -> Result<Vec<ToldCite>, ListError>
     requires { All (λ work. work < length works.now) order.now }
     ensures len { IfOk result (λ told. length told.items ≡ length order.now) }
     ensures err { IfErr result IsListingError }
 {
     let mut told = Vec::with_capacity(alloc, order.len())?;
-    for (place, work) in order.iter().enumerate() {
-        let state = DisambiguateState::None;
-        told.push(cite_in_state(alloc, renderer, &works[*work], place, state)?)?;
+    for (place, index) in order.iter().enumerate() {
+        let own = telling.get(*index).copied().unwrap_or(TellingCite::First);
+        told.push(plain_cite(alloc, renderer, &works[*index], place, own)?)?;
     }
     Ok(told)
 }
@@ -259,7 +288,10 @@ fn fuller_cite<T: EntryLike>(
     };
     match fuller_forms(alloc, forms, more)? {
         None => Ok(None),
-        Some(fuller) => Ok(Some(named_cite(alloc, renderer, work, place, fuller)?)),
+        Some(fuller) => {
+            let own = (told.telling, told.is_first_too);
+            Ok(Some(named_cite(alloc, renderer, work, place, own, fuller)?))
+        }
     }
 }
 
@@ -485,6 +517,8 @@ fn rendered_anew<T: EntryLike>(
         return Ok(cite);
     }
     let ToldCite {
+        telling,
+        is_first_too,
         text,
         names,
         forms,
@@ -492,8 +526,13 @@ fn rendered_anew<T: EntryLike>(
         added,
     } = cite;
     match forms {
-        Some(forms) => named_cite(alloc, renderer, work, place, forms),
+        Some(forms) => {
+            let own = (telling, is_first_too);
+            named_cite(alloc, renderer, work, place, own, forms)
+        }
         None => Ok(ToldCite {
+            telling,
+            is_first_too,
             text,
             names,
             forms: None,
@@ -524,8 +563,9 @@ fn with_expanded<T: EntryLike>(
     Ok(anew)
 }
 
-/// The first cites of the works of a list, in its order, told apart by their names as the options
-/// have it: by names that the whole document needs, by more names, and by given names.
+/// The cites of the works of a list, in its order, told apart by their names as the options have it:
+/// by names that the whole document needs, by more names, and by given names. `telling` says of each
+/// work which cite it is.
 pub(crate) fn told_cites<T: EntryLike>(
     alloc: Global,
     renderer: &mut Renderer<'_>,
@@ -557,18 +597,19 @@ fn chosen_cites<T: EntryLike>(
     renderer: &mut Renderer<'_>,
     works: &[T],
     order: &[usize],
+    told: &[ToldCite],
     places: &[usize],
 ) -> Result<Vec<Option<ToldCite>>, ListError>
     ensures err { IfErr result IsListingError }
 {
     let mut chosen = Vec::with_capacity(alloc, places.len())?;
     for place in places {
-        chosen.push(match work_at(works, order, *place) {
-            Some(work) => {
-                let state = DisambiguateState::Choose;
-                Some(cite_in_state(alloc, renderer, work, *place, state)?)
+        chosen.push(match (work_at(works, order, *place), told.get(*place)) {
+            (Some(work), Some(own)) => {
+                let (own, state) = (own.telling, DisambiguateState::Choose);
+                Some(cite_in_state(alloc, renderer, work, *place, own, state)?)
             }
-            None => None,
+            _ => None,
         })?;
     }
     Ok(chosen)
@@ -588,7 +629,7 @@ pub(crate) fn choices<T: EntryLike>(
     let all = all_places(alloc, told.len())?;
     let places = ambiguous(alloc, told, &all)?;
     let firsts = first_equal_cites(alloc, told, &places)?;
-    let chosen = chosen_cites(alloc, renderer, works, order, &places)?;
+    let chosen = chosen_cites(alloc, renderer, works, order, told, &places)?;
     let splits = splits(alloc, told, &places, &firsts, &chosen)?;
     let mut choices = vec![in alloc; false; told.len()]?;
     for (index, place) in places.iter().enumerate() {
@@ -605,5 +646,17 @@ pub(crate) fn forms_at(told: &[ToldCite], place: usize) -> Option<&NameDisambigu
     match told.get(place) {
         Some(cite) if cite.is_named => cite.forms.as_ref(),
         Some(_) | None => None,
+    }
+}
+
+/// The same for a cite of the work: they are not for a first cite that says more than later ones.
+pub(crate) fn forms_of_cite(
+    told: &[ToldCite],
+    place: usize,
+    is_first: bool,
+) -> Option<&NameDisambiguationProperties> {
+    match told.get(place) {
+        Some(cite) if is_first && !cite.is_first_too => None,
+        Some(_) | None => forms_at(told, place),
     }
 }
