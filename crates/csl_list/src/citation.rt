@@ -24,7 +24,7 @@ use crate::pieces::{push_entry, push_text, push_tree};
 use crate::position::{CitesSoFar, PlacedCite, Position};
 use crate::rendered::RenderedCitation;
 use crate::request::{CitationItem, CitationRequest, CitePurpose};
-use crate::told::{ToldCite, forms_at};
+use crate::told::{ToldCite, forms_of_cite};
 use crate::told_names::put_added_names;
 use csl::Renderer;
 use csl_common::Memory;
@@ -352,7 +352,7 @@ fn positioned_cites<'a, 'd, T>(
                 locator: locator_with_marks(item, marked.get(*index)),
                 position,
                 identity,
-                forms: forms_at(told, identity.number.get() as usize),
+                forms: forms_of_cite(told, identity.number.get() as usize, position.is_first),
             })?;
         }
     }

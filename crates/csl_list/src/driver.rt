@@ -19,6 +19,7 @@ use crate::listed::{ListedWorks, check_works, cited_works, first_cites, listed_w
 use crate::position::CitesSoFar;
 use crate::rendered::{RenderedBibliography, RenderedCitation, RenderedList};
 use crate::request::CitationRequest;
+use crate::telling::telling_cites;
 use crate::told::{OrderedWorks, ToldCite, choices, told_cites};
 use crate::year_suffix::year_suffixes;
 use csl::Renderer;
@@ -187,9 +188,9 @@ impl<'d> BibliographyDriver<'d> {
     }
 
     /// The driver with a limit: the cites, works and sort keys of a list may write so many bytes in
-    /// all. Cites that are rendered to tell works apart count too: one of each work, and of works
-    /// with equal cites one for each name that is added. [`csl::context::Context::limit`] says what
-    /// takes how many. Texts of the author around cites, and finishing, take none.
+    /// all. Cites that are rendered to tell works apart count too: one of each work, in notes two,
+    /// and of works with equal cites one for each name that is added.
+    /// [`csl::context::Context::limit`] says what takes how many. Texts of the author around cites, and finishing, take none.
     pub fn limited(self, bytes: u64) -> BibliographyDriver<'d>
         ensures requests { spec.requests_of result ≡ spec.requests_of self.entry }
         ensures limit { spec.limit_of result ≡ bytes }
@@ -249,9 +250,11 @@ impl<'d> BibliographyDriver<'d> {
         let mut renderer = Renderer::new(style.style()).limited(self.limit);
         let requests = self.requests.as_slice();
         let order = listed_order(alloc, &mut renderer, style, works, requests, listed)?;
+        let telling = telling_cites(alloc, requests, works.len())?;
         let in_order = OrderedWorks {
             works,
             order: &order,
+            telling: &telling,
             is_english: style.is_english(),
         };
         let told = told_cites(alloc, &mut renderer, style.citation(), &in_order)?;

@@ -31,6 +31,7 @@ mod rendered;
 mod request;
 mod style_error;
 mod substitute;
+mod telling;
 mod told;
 mod told_names;
 mod year_suffix;

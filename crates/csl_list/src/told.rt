@@ -1,4 +1,4 @@
-//! First cites that are told apart by their names (CSL 1.0.2, Disambiguation:
+//! Cites that are told apart by their names (CSL 1.0.2, Disambiguation:
 //! disambiguate-add-names, disambiguate-add-givenname, givenname-disambiguation-rule).
 
 ghost use Rattle.std.specs.Prelude.{◌≡◌, ◌<◌, IfOk, IfErr, length};
@@ -10,22 +10,24 @@ use crate::cases::set_cases_of_work;
 use crate::equal::first_equals;
 use crate::error::ListError;
 use crate::given_names::{cited_names, steps_of_names};
-use crate::identity::{Identity, number_at};
+use crate::identity::number_at;
 use crate::options::{CitationOptions, GivenNameRule};
 use crate::substitute::whole_names;
+use crate::telling::TellingCite;
 use crate::told_names::{AddedNames, added_names};
 use csl::{Rendered, Renderer};
 use csl_common::Memory;
-use csl_entry::{
-    CiteProperties, DisambiguateState, EntryLike, NameDisambiguationProperties,
-    SpeculativeCiteProperties,
-};
+use csl_entry::{DisambiguateState, EntryLike, NameDisambiguationProperties};
 use csl_tree::BufWriteFormat;
 use std::alloc::Global;
 
-/// The first cite of a work, as far as it is told apart from others.
+/// The cite of a work, as far as it is told apart from others.
 #[derive(Drop)]
 pub(crate) struct ToldCite {
+    /// Which cite it is.
+    pub telling: TellingCite,
+    /// Whether a first cite of the work is the same.
+    pub is_first_too: bool,
     /// The cite as a plain text.
     pub text: String,
     /// The names that it begins with, as a plain text. The text is empty if it has none.
@@ -44,6 +46,8 @@ pub(crate) struct OrderedWorks<'w, T> {
     pub works: &'w [T],
     /// The indices of the works in the order of the list.
     pub order: &'w [usize],
+    /// Of each work the cite that tells it apart.
+    pub telling: &'w [TellingCite],
     /// Whether works are English that do not say so themselves.
     pub is_english: bool,
 }
@@ -57,25 +61,19 @@ enum More {
     Given(usize, usize),
 }
 
-/// The first cite of the work at a place, in this state.
+/// The cite of the work at a place, in this state.
 fn cite_in_state<T: EntryLike>(
     alloc: Global,
     renderer: &mut Renderer<'_>,
     list: &OrderedWorks<'_, T>,
     work: &T,
     place: usize,
+    telling: TellingCite,
     disambiguation: DisambiguateState,
 ) -> Result<ToldCite, ListError>
     ensures err { IfErr result IsListingError }
 {
-    let first = Identity::numbered(number_at(place)?).first_cite();
-    let props = CiteProperties {
-        certain: first.certain,
-        speculative: SpeculativeCiteProperties {
-            disambiguation,
-            ..first.speculative
-        },
-    };
+    let props = telling.properties(number_at(place)?, disambiguation);
     let is_named = matches!(
         props.speculative.disambiguation,
         DisambiguateState::NameDisambiguation(_)
@@ -83,6 +81,8 @@ fn cite_in_state<T: EntryLike>(
     let Rendered { mut content, state } = renderer.cite(alloc, work, &props)?;
     set_cases_of_work(alloc, &mut content, work, list.is_english)?;
     Ok(ToldCite {
+        telling,
+        is_first_too: true,
         text: content.to_text(alloc, BufWriteFormat::Plain)?,
         names: whole_names(alloc, &content)?,
         forms: state.first_names,
@@ -91,19 +91,20 @@ fn cite_in_state<T: EntryLike>(
     })
 }
 
-/// The first cite of the work at a place, with these forms of its names.
+/// The same cite of the work at a place, with these forms of its names.
 fn named_cite<T: EntryLike>(
     alloc: Global,
     renderer: &mut Renderer<'_>,
     list: &OrderedWorks<'_, T>,
     work: &T,
     place: usize,
+    (telling, is_first_too): (TellingCite, bool),
     forms: NameDisambiguationProperties,
 ) -> Result<ToldCite, ListError>
     ensures err { IfErr result IsListingError }
 {
     let state = DisambiguateState::NameDisambiguation(forms.clone(alloc)?);
-    let cite = cite_in_state(alloc, renderer, list, work, place, state)?;
+    let cite = cite_in_state(alloc, renderer, list, work, place, telling, state)?;
     let ToldCite {
         text,
         names,
@@ -111,6 +112,8 @@ fn named_cite<T: EntryLike>(
         ..
     } = cite;
     Ok(ToldCite {
+        telling,
+        is_first_too,
         text,
         names,
         forms: Some(forms),
@@ -119,8 +122,37 @@ fn named_cite<T: EntryLike>(
     })
 }
 
-/// The first cites of the works of a list, in its order, as the style has them.
-fn first_cites<T: EntryLike>(
+/// The cite of the work at a place, as the style has it.
+fn plain_cite<T: EntryLike>(
+    alloc: Global,
+    renderer: &mut Renderer<'_>,
+    list: &OrderedWorks<'_, T>,
+    work: &T,
+    place: usize,
+    telling: TellingCite,
+) -> Result<ToldCite, ListError>
+    ensures err { IfErr result IsListingError }
+{
+    let mut cite = cite_in_state(
+        alloc,
+        renderer,
+        list,
+        work,
+        place,
+        telling,
+        DisambiguateState::None,
+    )?;
+    if let TellingCite::Later(_) = telling {
+        let (first, state) = (TellingCite::First, DisambiguateState::None);
+        let first = cite_in_state(alloc, renderer, list, work, place, first, state)?;
+        cite.is_first_too = first.text == cite.text;
+    }
+    Ok(cite)
+}
+
+/// The cites of the works of a list, in its order, as the style has them. `telling` says of each
+/// work which cite it is.
+fn plain_cites<T: EntryLike>(
     alloc: Global,
     renderer: &mut Renderer<'_>,
     list: &OrderedWorks<'_, T>,
@@ -130,9 +162,13 @@ fn first_cites<T: EntryLike>(
     ensures err { IfErr result IsListingError }
 {
     let mut told = Vec::with_capacity(alloc, list.order.len())?;
-    for (place, work) in list.order.iter().enumerate() {
-        let (work, state) = (&list.works[*work], DisambiguateState::None);
-        told.push(cite_in_state(alloc, renderer, list, work, place, state)?)?;
+    for (place, index) in list.order.iter().enumerate() {
+        let own = list
+            .telling
+            .get(*index)
+            .copied()
+            .unwrap_or(TellingCite::First);
+        told.push(plain_cite(alloc, renderer, list, &list.works[*index], place, own)?)?;
     }
     Ok(told)
 }
@@ -273,7 +309,10 @@ fn fuller_cite<T: EntryLike>(
     };
     match fuller_forms(alloc, forms, more)? {
         None => Ok(None),
-        Some(fuller) => Ok(Some(named_cite(alloc, renderer, list, work, place, fuller)?)),
+        Some(fuller) => {
+            let own = (told.telling, told.is_first_too);
+            Ok(Some(named_cite(alloc, renderer, list, work, place, own, fuller)?))
+        }
     }
 }
 
@@ -495,6 +534,8 @@ fn rendered_anew<T: EntryLike>(
         return Ok(cite);
     }
     let ToldCite {
+        telling,
+        is_first_too,
         text,
         names,
         forms,
@@ -502,8 +543,13 @@ fn rendered_anew<T: EntryLike>(
         added,
     } = cite;
     match forms {
-        Some(forms) => named_cite(alloc, renderer, list, work, place, forms),
+        Some(forms) => {
+            let own = (telling, is_first_too);
+            named_cite(alloc, renderer, list, work, place, own, forms)
+        }
         None => Ok(ToldCite {
+            telling,
+            is_first_too,
             text,
             names,
             forms: None,
@@ -533,8 +579,9 @@ fn with_expanded<T: EntryLike>(
     Ok(anew)
 }
 
-/// The first cites of the works of a list, in its order, told apart by their names as the options
-/// have it: by names that the whole document needs, by more names, and by given names.
+/// The cites of the works of a list, in its order, told apart by their names as the options have it:
+/// by names that the whole document needs, by more names, and by given names. `telling` says of each
+/// work which cite it is.
 pub(crate) fn told_cites<T: EntryLike>(
     alloc: Global,
     renderer: &mut Renderer<'_>,
@@ -544,7 +591,7 @@ pub(crate) fn told_cites<T: EntryLike>(
     requires order { All (λ work. work < length list.now.works.now) list.now.order.now }
     ensures err { IfErr result IsListingError }
 {
-    let mut told = first_cites(alloc, renderer, list)?;
+    let mut told = plain_cites(alloc, renderer, list)?;
     let expansion = expansion_of(options.given_name_rule);
     if let (true, Some((is_primary, most))) = (options.adds_given_names, expansion) {
         expand_names(alloc, list, &mut told, is_primary, most)?;
@@ -564,18 +611,19 @@ fn chosen_cites<T: EntryLike>(
     alloc: Global,
     renderer: &mut Renderer<'_>,
     list: &OrderedWorks<'_, T>,
+    told: &[ToldCite],
     places: &[usize],
 ) -> Result<Vec<Option<ToldCite>>, ListError>
     ensures err { IfErr result IsListingError }
 {
     let mut chosen = Vec::with_capacity(alloc, places.len())?;
     for place in places {
-        chosen.push(match work_at(list, *place) {
-            Some(work) => {
-                let state = DisambiguateState::Choose;
-                Some(cite_in_state(alloc, renderer, list, work, *place, state)?)
+        chosen.push(match (work_at(list, *place), told.get(*place)) {
+            (Some(work), Some(own)) => {
+                let (own, state) = (own.telling, DisambiguateState::Choose);
+                Some(cite_in_state(alloc, renderer, list, work, *place, own, state)?)
             }
-            None => None,
+            _ => None,
         })?;
     }
     Ok(chosen)
@@ -594,7 +642,7 @@ pub(crate) fn choices<T: EntryLike>(
     let all = all_places(alloc, told.len())?;
     let places = ambiguous(alloc, told, &all)?;
     let firsts = first_equal_cites(alloc, told, &places)?;
-    let chosen = chosen_cites(alloc, renderer, list, &places)?;
+    let chosen = chosen_cites(alloc, renderer, list, told, &places)?;
     let splits = splits(alloc, told, &places, &firsts, &chosen)?;
     let mut choices = vec![in alloc; false; told.len()]?;
     for (index, place) in places.iter().enumerate() {
@@ -611,5 +659,17 @@ pub(crate) fn forms_at(told: &[ToldCite], place: usize) -> Option<&NameDisambigu
     match told.get(place) {
         Some(cite) if cite.is_named => cite.forms.as_ref(),
         Some(_) | None => None,
+    }
+}
+
+/// The same for a cite of the work: they are not for a first cite that says more than later ones.
+pub(crate) fn forms_of_cite(
+    told: &[ToldCite],
+    place: usize,
+    is_first: bool,
+) -> Option<&NameDisambiguationProperties> {
+    match told.get(place) {
+        Some(cite) if is_first && !cite.is_first_too => None,
+        Some(_) | None => forms_at(told, place),
     }
 }
