@@ -150,8 +150,7 @@ fn plain_cite<T: EntryLike>(
     Ok(cite)
 }
 
-/// The cites of the works of a list, in its order, as the style has them. `telling` says of each
-/// work which cite it is.
+/// The cites of the works of a list, in its order, as the style has them.
 fn plain_cites<T: EntryLike>(
     alloc: Global,
     renderer: &mut Renderer<'_>,
@@ -580,8 +579,7 @@ fn with_expanded<T: EntryLike>(
 }
 
 /// The cites of the works of a list, in its order, told apart by their names as the options have it:
-/// by names that the whole document needs, by more names, and by given names. `telling` says of each
-/// work which cite it is.
+/// by names that the whole document needs, by more names, and by given names.
 pub(crate) fn told_cites<T: EntryLike>(
     alloc: Global,
     renderer: &mut Renderer<'_>,
