@@ -51,7 +51,8 @@ pub(crate) fn telling_cites(
     works: usize,
 ) -> Result<Vec<TellingCite>, Memory> {
     if requests.iter().all(|request| request.note_number.is_none()) {
-        return vec![in alloc; TellingCite::First; works];
+        let telling = vec![in alloc; TellingCite::First; works]?;
+        return Ok(telling);
     }
     let mut telling = vec![in alloc; TellingCite::Later(None); works]?;
     for request in requests {

@@ -98,11 +98,12 @@ fn named_cite<T: EntryLike>(
     list: &OrderedWorks<'_, T>,
     work: &T,
     place: usize,
-    (telling, is_first_too): (TellingCite, bool),
+    own: (TellingCite, bool),
     forms: NameDisambiguationProperties,
 ) -> Result<ToldCite, ListError>
     ensures err { IfErr result IsListingError }
 {
+    let (telling, is_first_too) = own;
     let state = DisambiguateState::NameDisambiguation(forms.clone(alloc)?);
     let cite = cite_in_state(alloc, renderer, list, work, place, telling, state)?;
     let ToldCite {
