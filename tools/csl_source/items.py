@@ -32,7 +32,8 @@ def form(name: str, value: Any) -> str:
 
 def attributes(tree: Tree, names: Any) -> list[str]:
     """The attributes of these names, where they are there."""
-    return [attribute(it, "true" if tree[it] is True else tree[it]) for it in names if it in tree]
+    return [attribute(it, str(tree[it]).lower() if isinstance(tree[it], bool) else tree[it])
+            for it in names if it in tree]
 
 
 def items(path: str, left: Counter[str]) -> tuple[list[Item], list[str]]:
@@ -42,5 +43,5 @@ def items(path: str, left: Counter[str]) -> tuple[list[Item], list[str]]:
     for it in works:
         kinds = [f"type={kind}" for kind in it.tree.get("type", ())]
         forms = [form(*variable) for variable in it.tree["variables"].items()]
-        found.append(Item(it.place, it.id, " ".join([*kinds, *forms])))
+        found.append(Item(it.place, it.id, " ".join([*kinds, *attributes(it.tree, ("english",)), *forms])))
     return found, faults

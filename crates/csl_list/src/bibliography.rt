@@ -8,9 +8,11 @@ ghost use Rattle.csl_list.specs.Errors.{IsListingError};
 ghost use Rattle.csl_list.specs.Pieces.{text_of};
 ghost use Rattle.csl_list.specs.Bibliography as spec;
 
+use crate::cases::set_cases_of_work;
 use crate::error::ListError;
 use crate::identity::{Identity, number_at};
 use crate::line_names::{line_content, line_forms};
+use crate::list_style::ListStyle;
 use crate::options::BibliographyOptions;
 use crate::pieces::{push_text, push_tree};
 use crate::rendered::BibliographyItem;
@@ -146,10 +148,10 @@ fn unfinished_fields<T: EntryLike>(
     Ok(between_affixes(alloc, options, formatting, fields)?)
 }
 
-/// The fields of a work as an item, each finished by itself.
+/// The fields of a work as an item, each put into its cases and finished by itself.
 fn finished_item<T: EntryLike>(
     alloc: Global,
-    style: &Style,
+    style: &ListStyle,
     work: &T,
     index: usize,
     number: CitationNumber,
@@ -164,9 +166,11 @@ fn finished_item<T: EntryLike>(
         mut others,
     } = fields;
     if let Some(first) = &mut first {
-        finish(alloc, style, first)?;
+        set_cases_of_work(alloc, first, work, style.is_english())?;
+        finish(alloc, style.style(), first)?;
     }
-    finish(alloc, style, &mut others)?;
+    set_cases_of_work(alloc, &mut others, work, style.is_english())?;
+    finish(alloc, style.style(), &mut others)?;
     let key = String::from_str(alloc, work.key().as_ref())?;
     Ok(BibliographyItem {
         work: index,
@@ -182,7 +186,7 @@ fn finished_item<T: EntryLike>(
 pub(crate) fn items<T: EntryLike>(
     alloc: Global,
     renderer: &mut Renderer<'_>,
-    style: &Style,
+    style: &ListStyle,
     options: &BibliographyOptions,
     works: &[T],
     order: &[usize],
@@ -196,7 +200,7 @@ pub(crate) fn items<T: EntryLike>(
         ≡ range_with_len 0 (length order.now)) }
     ensures err { IfErr result IsListingError }
 {
-    let formatting = affix_formatting(style);
+    let formatting = affix_formatting(style.style());
     let mut before = NamesBefore::new(alloc);
     let mut items = Vec::with_capacity(alloc, order.len())?;
     for (place, index) in order.iter().enumerate() {

@@ -44,7 +44,8 @@ pub(crate) fn added_names(
     }
 }
 
-/// The names of a work that stand beside its suffix.
+/// The names of a work that stand beside its suffix. There are none if its first cite says more than
+/// later ones.
 fn names_beside<'t>(
     told: &'t [ToldCite],
     identities: &[Identity],
@@ -55,6 +56,9 @@ fn names_beside<'t>(
         return None;
     }
     let cite = told.get(identity.number.get() as usize)?;
+    if !cite.is_first_too {
+        return None;
+    }
     cite.added.as_ref()
 }
 

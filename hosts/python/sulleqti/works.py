@@ -134,7 +134,9 @@ class Reader:
             self.wrong.append(("type", f"the type {named(kind)} is unknown{near}"))
         name, variables = cleaned(str(name)), dict(self.variables(value))
         kinds = {"type": [kind]} if is_known else {}
-        return Work(place, name, {**kinds, "key": name, "variables": variables})
+        language = variables.get("language")
+        english = {"english": language.lower().startswith("en")} if language else {}
+        return Work(place, name, {**kinds, "key": name, **english, "variables": variables})
 
     def variables(self, item: Dict[str, Any]) -> Iterator[Tuple[str, Any]]:
         """The variables of an item."""
