@@ -1,2 +1,3 @@
 pub mod Replied
 pub mod Sums
+pub mod Rendered

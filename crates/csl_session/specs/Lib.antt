@@ -1,3 +1,4 @@
 -- The definitions that the contracts of `csl_session` cite.
 pub mod Kept
 pub mod Replies
+pub mod Rendered

@@ -35,8 +35,8 @@ enum Line {
     OutOfMemory,
 }
 
-/// How many characters a line has that may stand before a value. A value takes up to a hundred times
-/// the memory of its text.
+/// How many characters a line has that may stand before a value. A value takes up to a hundred
+/// times the memory of its text.
 fn count_of_values(line: &[u8]) -> usize {
     let mut count: usize = 0;
     for byte in line {

@@ -1,8 +1,18 @@
 //! The cites, the lines of a bibliography and the sort keys of a request.
+//! Definitions: specs/Rendered.antt.
+
+ghost use Rattle.std.specs.Prelude.{◌≡◌, None, Some, IfOk, option_map};
+ghost use Rattle.serde_json.specs.Data.{string};
+ghost use Rattle.serde_json.specs.View.{view};
+ghost use Rattle.csl.specs.Entry.Cite.{cite_state};
+ghost use Rattle.csl.specs.Render.Cites.{new_cite, sort_key_text, whole_cite};
+ghost use Rattle.csl.specs.Style.declared.style.settings.Scope.TheVariants as scopes;
+ghost use Rattle.csl.specs.Tree.Tokens.{tokens};
+ghost use Rattle.csl_session.specs.Rendered.{IsContentOf, IsLineOf};
 
 use crate::limits::SessionLimits;
 use csl::style::Scope;
-use csl::{EntryLike, Error, Renderer, Sorting};
+use csl::{CiteProperties, EntryLike, Error, Rendered, Renderer, Sorting, SpecialForm};
 use csl_elements::{
     Date, Layout, LayoutRenderingElement, Names, Number, NumberOrPageVariable, Text, Variable,
 };
@@ -67,6 +77,58 @@ fn cite_of_item<'v>(
     }
 }
 
+/// What was rendered, in these formats.
+fn rendered_value(alloc: Global, rendered: Rendered, formats: Formats) -> Result<Value, WireError>
+    ensures { IfOk result (λ v. IsContentOf formats (tokens rendered.content) (view v)) }
+{
+    let value = content_value(alloc, rendered.content, formats)?;
+    Ok(value)
+}
+
+/// A whole cite.
+#[tactic(auto, using(crate::proofs::Rendered::content_same))]
+fn whole_value<T: EntryLike>(
+    alloc: Global,
+    renderer: &mut Renderer<'_>,
+    work: &T,
+    cite: &CiteProperties<'_>,
+    formats: Formats,
+) -> Result<Value, WireError>
+    ensures { IfOk result (λ v. IsContentOf formats (whole_cite renderer.old.style scopes.Citation
+        (cite_state cite.now) (T.answers work.now) renderer.old.style.citation).content (view v)) }
+{
+    match renderer.cite(alloc, work, cite) {
+        Ok(rendered) => {
+            let value = rendered_value(alloc, rendered, formats)?;
+            Ok(value)
+        }
+        Err(error) => Err(of_rendering(alloc, error)),
+    }
+}
+
+/// A cite in a special form.
+#[tactic(auto, using(crate::proofs::Rendered::content_same))]
+fn part_value<T: EntryLike>(
+    alloc: Global,
+    renderer: &mut Renderer<'_>,
+    work: &T,
+    cite: &CiteProperties<'_>,
+    form: SpecialForm,
+    formats: Formats,
+) -> Result<Value, WireError>
+    ensures { IfOk result (λ v. IsContentOf formats (new_cite renderer.old.style scopes.Citation
+        (cite_state cite.now) None (Some form) (T.answers work.now)
+        renderer.old.style.citation).content (view v)) }
+{
+    match renderer.cite_in(alloc, work, cite, form) {
+        Ok(rendered) => {
+            let value = rendered_value(alloc, rendered, formats)?;
+            Ok(value)
+        }
+        Err(error) => Err(of_rendering(alloc, error)),
+    }
+}
+
 /// A cite.
 fn cite_value<T: EntryLike>(
     alloc: Global,
@@ -74,27 +136,41 @@ fn cite_value<T: EntryLike>(
     work: &T,
     cite: &WireCite<'_>,
     formats: Formats,
-) -> Result<Value, WireError> {
-    let rendered = match cite.form {
-        Some(form) => renderer.cite_in(alloc, work, &cite.properties, form),
-        None => renderer.cite(alloc, work, &cite.properties),
-    };
-    match rendered {
-        Ok(rendered) => content_value(alloc, rendered.content, formats),
-        Err(error) => Err(of_rendering(alloc, error)),
+) -> Result<Value, WireError>
+    ensures { IfOk result (λ v. IsContentOf formats (new_cite renderer.old.style scopes.Citation
+        (cite_state cite.now.properties) None cite.now.form (T.answers work.now)
+        renderer.old.style.citation).content (view v)) }
+{
+    match cite.form {
+        Some(form) => {
+            let value = part_value(alloc, renderer, work, &cite.properties, form, formats)?;
+            Ok(value)
+        }
+        None => {
+            let value = whole_value(alloc, renderer, work, &cite.properties, formats)?;
+            Ok(value)
+        }
     }
 }
 
 /// A line of the bibliography, or `null` if the style has none.
+#[tactic(auto, using(crate::proofs::Rendered::line_same))]
 fn line_value<T: EntryLike>(
     alloc: Global,
     renderer: &mut Renderer<'_>,
     work: &T,
     cite: &WireCite<'_>,
     formats: Formats,
-) -> Result<Value, WireError> {
+) -> Result<Value, WireError>
+    ensures { IfOk result (λ v. IsLineOf formats (option_map (λ layout. (whole_cite
+        renderer.old.style scopes.Bibliography (cite_state cite.now.properties)
+        (T.answers work.now) layout).content) renderer.old.style.bibliography) (view v)) }
+{
     match renderer.bibliography_entry(alloc, work, &cite.properties) {
-        Ok(Some(rendered)) => content_value(alloc, rendered.content, formats),
+        Ok(Some(rendered)) => {
+            let value = rendered_value(alloc, rendered, formats)?;
+            Ok(value)
+        }
         Ok(None) => Ok(Value::Null),
         Err(error) => Err(of_rendering(alloc, error)),
     }
@@ -127,6 +203,25 @@ fn key_layout(form: Form<'_>) -> Result<(Layout, Sorting), WireError> {
     Ok((layout, sorting))
 }
 
+/// The text of a key to sort by, of this layout.
+fn sorted_value<T: EntryLike>(
+    alloc: Global,
+    renderer: &mut Renderer<'_>,
+    work: &T,
+    cite: &CiteProperties<'_>,
+    layout: &Layout,
+    scope: Scope,
+    sorting: Sorting,
+) -> Result<Value, WireError>
+    ensures { IfOk result (λ v. view v ≡ string (sort_key_text renderer.old.style scope
+        (cite_state cite.now) sorting (T.answers work.now) layout.now)) }
+{
+    match renderer.sort_key(alloc, work, cite, layout, scope, sorting) {
+        Ok(key) => Ok(Value::String(key)),
+        Err(error) => Err(of_rendering(alloc, error)),
+    }
+}
+
 /// The text of a key to sort by.
 fn key_value<T: EntryLike>(
     renderer: &mut Renderer<'_>,
@@ -137,12 +232,17 @@ fn key_value<T: EntryLike>(
 ) -> Result<Value, WireError> {
     let alloc = item.reader.alloc;
     let (layout, sorting) = key_layout(item)?;
-    let key = renderer.sort_key(alloc, work, &cite.properties, &layout, scope, sorting);
+    let key = sorted_value(
+        alloc,
+        renderer,
+        work,
+        &cite.properties,
+        &layout,
+        scope,
+        sorting,
+    );
     drop(layout);
-    match key {
-        Ok(key) => Ok(Value::String(key)),
-        Err(error) => Err(of_rendering(alloc, error)),
-    }
+    key
 }
 
 /// An item of a batch, for its work.
