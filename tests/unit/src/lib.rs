@@ -24,6 +24,8 @@ mod csl_tree_tests;
 #[cfg(test)]
 mod csl_wire_cite_tests;
 #[cfg(test)]
+mod csl_wire_list_tests;
+#[cfg(test)]
 mod csl_wire_tests;
 #[cfg(test)]
 mod lit_model_tests;
