@@ -1,9 +1,10 @@
 -- The works that a document names: each once, in the order in which they are first named.
-use Rattle.std.specs.Prelude.{◌≡◌, ◌↔◌, ℕ, List, [], ◌∷◌, ◌++◌, Option, Some, map, slice_get, if◌then◌else◌, bytes_eq, nat_cmp}
+use Rattle.std.specs.Prelude.{◌≡◌, ◌↔◌, ℕ, List, [], ◌∷◌, ◌++◌, Option, Some, map, slice_get, if◌then◌else◌, bytes_eq}
 use Rattle.std.specs.Borrow.{Bor}
 use Rattle.std.specs.BTreeMap.{BTreeMap, get_by}
 use Rattle.std.specs.Cmp.Lexicographic.{slice_cmp}
 use Rattle.std.specs.List.{fold, list_any}
+use Rattle.std.specs.Ordering.{nat_cmp}
 use Rattle.csl_wire_list.specs.declared.works.NamedWork.{NamedWork}
 
 abbrev pub names_of : List NamedWork → List (List ℕ)

@@ -4,7 +4,7 @@
 ghost use Rattle.std.specs.Prelude.{◌≡◌, Some, IfOk, codes};
 ghost use Rattle.serde_json.specs.View.{view};
 ghost use Rattle.csl_wire.specs.Reading.{member};
-ghost use Rattle.csl_wire_list.specs.BibliographyOptions.{read_line_spacing, AreBibliographyOptions, AreBibliographyOptionsIf, IsSubstitute};
+ghost use Rattle.csl_wire_list.specs.BibliographyOptions.{read_spacing, AreBibliographyOptions, AreBibliographyOptionsIf, IsSubstitute};
 
 use crate::choices::{FIELD_ALIGNS, SUBSTITUTE_RULES};
 use crate::keys::keys;
@@ -31,7 +31,7 @@ fn author_substitute(form: Form<'_>) -> Result<Option<AuthorSubstitute>, WireErr
 
 /// The distance of lines, which is at least 1.
 fn line_spacing(form: Form<'_>) -> Result<u32, WireError>
-    ensures { IfOk result (λ n. read_line_spacing (view form.entry.value.now) ≡ Some n) }
+    ensures { IfOk result (λ n. read_spacing (codes "line-spacing") (view form.entry.value.now) ≡ Some n) }
 {
     let lines = form.number("line-spacing")?.unwrap_or(1);
     if lines == 0 {
@@ -96,7 +96,7 @@ pub fn bibliography_options_of(
     ensures { IfOk result (AreBibliographyOptions (view value.now)) }
 {
     let form = Form::of(limits.texts(alloc), value, &[&BIBLIOGRAPHY])?;
-    options_in(limits, form)
+    Ok(options_in(limits, form)?)
 }
 
 /// The options of the bibliography among the members of a style with its options.

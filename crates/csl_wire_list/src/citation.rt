@@ -74,7 +74,7 @@ pub fn citation_options_of(
     ensures { IfOk result (AreCitationOptions (view value.now)) }
 {
     let form = Form::of(limits.texts(alloc), value, &[&CITATION])?;
-    options_in(limits, form)
+    Ok(options_in(limits, form)?)
 }
 
 /// The options of citations among the members of a style with its options.

@@ -50,6 +50,7 @@ fn note_number(form: Form<'_>) -> Result<Option<NoteNumber>, WireError>
 static CITATION: [&str; 2] = ["note-number", "items"];
 
 /// The citation at this index.
+#[tactic(auto, using(crate::proofs::Read::citation_read, crate::proofs::Read::names_read))]
 fn citation<'v>(
     alloc: Global,
     limits: DocumentLimits,
@@ -71,6 +72,7 @@ fn citation<'v>(
 }
 
 /// The citations of a list.
+#[tactic(auto, using(crate::proofs::Longer::one_citation_more, crate::proofs::Longer::names_more))]
 pub(crate) fn citations<'v>(
     alloc: Global,
     limits: DocumentLimits,

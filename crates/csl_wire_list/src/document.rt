@@ -50,6 +50,7 @@ fn check_works(alloc: Global, limits: DocumentLimits, values: &[Value]) -> Resul
 }
 
 /// Adds the works of a list of names.
+#[tactic(auto, using(crate::proofs::Longer::one_word_more, crate::proofs::Read::word_read))]
 fn add_works<'v>(
     reader: Reader,
     works: &mut WorksSoFar<'v>,
@@ -69,6 +70,7 @@ fn add_works<'v>(
 ///
 /// # Errors
 /// [`WireError::Refused`]: the members are no document within the limits.
+#[tactic(auto, using(crate::proofs::Read::document_read))]
 pub fn document_in<'v>(
     form: Form<'v>,
     limits: DocumentLimits,
@@ -108,5 +110,5 @@ pub fn document_of<'v>(
         (names_of document.works.items) document.citations.items) }
 {
     let form = Form::of(limits.texts(alloc), value, &[&DOCUMENT])?;
-    document_in(form, limits)
+    Ok(document_in(form, limits)?)
 }

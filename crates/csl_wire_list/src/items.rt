@@ -71,6 +71,7 @@ fn affix(form: Form<'_>, name: &'static str) -> Result<Option<ElemChildren>, Wir
 }
 
 /// The index of the work of a cite.
+#[tactic(auto, using(crate::proofs::Read::of_work_read, crate::proofs::Read::name_read))]
 fn work_of<'v>(
     works: &mut WorksSoFar<'v>,
     form: Form<'v>,
@@ -120,6 +121,7 @@ fn item<'v>(
 }
 
 /// The cites of the citation at this index.
+#[tactic(auto, using(crate::proofs::Longer::one_item_more, crate::proofs::Longer::one_name_more))]
 pub(crate) fn items<'v>(
     alloc: Global,
     limits: DocumentLimits,

@@ -1,7 +1,7 @@
 //! The keys that cites and works are sorted by (CSL 1.0.2, Sorting).
 //! Definitions: specs/Keys.antt.
 
-ghost use Rattle.std.specs.Prelude.{◌≤◌, IfOk, map, vec_len};
+ghost use Rattle.std.specs.Prelude.{IfOk, map};
 ghost use Rattle.std.specs.List.{AllZip};
 ghost use Rattle.serde_json.specs.View.{view};
 ghost use Rattle.csl_wire_list.specs.Keys.{AreKeys, IsKey, IsSource};
@@ -46,6 +46,7 @@ fn key(reader: Reader, value: &Value) -> Result<SortKey, WireError>
 }
 
 /// The keys of a list.
+#[tactic(auto, using(csl_wire::proofs::Lists::zip_more))]
 fn all_keys(reader: Reader, items: &[Value]) -> Result<Vec<SortKey>, WireError>
     ensures { IfOk result (λ keys. AllZip IsKey (map view items.now) keys.items) }
 {
@@ -57,6 +58,7 @@ fn all_keys(reader: Reader, items: &[Value]) -> Result<Vec<SortKey>, WireError>
 }
 
 /// The keys among the members.
+#[tactic(auto, using(crate::proofs::Read::keys_read))]
 pub(crate) fn keys(limits: OptionLimits, form: Form<'_>) -> Result<Vec<SortKey>, WireError>
     ensures { IfOk result (λ keys. AreKeys (view form.entry.value.now) keys.items) }
 {
@@ -66,5 +68,6 @@ pub(crate) fn keys(limits: OptionLimits, form: Form<'_>) -> Result<Vec<SortKey>,
         let reason = "there are too many keys";
         return Err(WireError::of(form.reader.alloc, Code::TooLong, reason).after(step));
     }
-    within(step, all_keys(form.reader, items))
+    let keys = within(step, all_keys(form.reader, items))?;
+    Ok(keys)
 }

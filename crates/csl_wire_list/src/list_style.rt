@@ -3,7 +3,6 @@
 
 ghost use Rattle.std.specs.Prelude.{IfOk};
 ghost use Rattle.serde_json.specs.View.{view};
-ghost use Rattle.csl_list.specs.ListStyle.{bibliography_of, citation_of, style_of as own_style};
 ghost use Rattle.csl_wire_list.specs.ListStyles.{IsListStyle, IsStyleIn};
 
 use crate::bibliography::bibliography_options;
@@ -17,11 +16,14 @@ use serde_json::Value;
 use std::alloc::Global;
 
 /// The style among the members.
-fn style_in(form: Form<'_>, limits: OptionLimits) -> Result<Style, WireError> {
+#[tactic(auto, using(crate::proofs::Read::style_read))]
+fn style_in(form: Form<'_>, limits: OptionLimits) -> Result<Style, WireError>
+    ensures { IfOk result (IsStyleIn (view form.entry.value.now)) }
+{
     match form.member("style") {
         Some(value) => {
             let style = style_of(form.reader.alloc, value, limits.style());
-            within(Step::Member("style"), style)
+            Ok(within(Step::Member("style"), style)?)
         }
         None => Err(form.missing("style")),
     }
@@ -87,7 +89,9 @@ fn refused(form: Form<'_>, error: ListStyleError) -> WireError {
 /// # Errors
 /// [`WireError::Refused`]: the members are no style with its options within the limits, or a key is
 /// by a macro that the style lacks.
-pub fn list_style_in(form: Form<'_>, limits: OptionLimits) -> Result<ListStyle, WireError> {
+pub fn list_style_in(form: Form<'_>, limits: OptionLimits) -> Result<ListStyle, WireError>
+    ensures { IfOk result (IsListStyle (view form.entry.value.now)) }
+{
     let alloc = form.reader.alloc;
     let citation = citation_options(limits, form)?;
     let bibliography = bibliography_options(limits, form)?;
@@ -112,7 +116,9 @@ pub fn list_style_of(
     alloc: Global,
     value: &Value,
     limits: OptionLimits,
-) -> Result<ListStyle, WireError> {
+) -> Result<ListStyle, WireError>
+    ensures { IfOk result (IsListStyle (view value.now)) }
+{
     let form = Form::of(limits.texts(alloc), value, &[&LIST_STYLE])?;
-    list_style_in(form, limits)
+    Ok(list_style_in(form, limits)?)
 }

@@ -48,6 +48,7 @@ impl<'v> WorksSoFar<'v> {
     }
 
     /// The index of the work of this name, which is one of the works from now on.
+    #[tactic(auto, using(crate::proofs::Names::last_named))]
     pub(crate) fn index_of(&mut self, name: &'v str, first: Mention) -> Result<usize, Memory>
         ensures index { IfOk result (λ index. slice_get (names_of self.new.works.items) index
             ≡ Some name.now) }
@@ -59,15 +60,18 @@ impl<'v> WorksSoFar<'v> {
         }
         let index = self.works.len();
         self.works.push(NamedWork { name, first })?;
-        if self.indices.insert(name, index).is_err() {
-            self.works.pop();
-            return Err(Memory);
+        match self.indices.insert(name, index) {
+            Ok(_) => Ok(index),
+            Err(_) => {
+                self.works.truncate(index);
+                Err(Memory)
+            }
         }
-        Ok(index)
     }
+
     /// The works.
     pub(crate) fn into_works(self) -> Vec<NamedWork<'v>>
-        ensures { result ≡ self.works }
+        ensures { result ≡ self.entry.works }
     {
         let WorksSoFar { works, indices } = self;
         drop(indices);
