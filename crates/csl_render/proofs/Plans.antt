@@ -241,13 +241,13 @@ module _ (w : RenderInput) (d : DryView) (i r : NodeInfo) (read : r.read ≡ i.r
 pub around_taken : (w : RenderInput) (s : State) (env : List ℕ → Option ExpandedNodes) (c : Choose) (taken : Option Nodes) (tested : VariableSet) (r : NodeInfo) (is : List PlanItem) → HasAllTested tested c → IsWithin tested r.read → taken ≡ chosen_children w s (view_choose c)
     → ((u : State) → AreAlikeOn w r.read (state_for_dry_run w.instance.special s) u → (answer_of r ≡ choice_info w u (option_map (expand_nodes env) taken)) × TellsAuthor w r.shows_author (choice_shows w u author (option_map (expand_nodes env) taken)))
     → AreItemsIfTaken w (state_for_dry_run w.instance.special s) (option_map (expand_nodes env) taken) is → nodes_of_branch (view_choose c) r.branch ≡ taken → IsInfo w (state_for_dry_run w.instance.special s) (expand env (view_choose c)) r is
-around_taken w s env c taken tested r is has within here tells inside branch u alike =
+around_taken w s env c taken tested r is has within here tells inside place u alike =
     let there = here ∙ same_chosen w s u tested (λ v h. alike.1 v (within v h)) c has in
     let told = tells u alike in (
       told.0 ∙ ap (λ o. choice_info w u (option_map (expand_nodes env) o)) there ∙ sym (info_of_choice w u env c),
       λ asks. told.1 asks ∙ ap (λ o. choice_shows w u author (option_map (expand_nodes env) o)) there ∙ sym (shows_of_choice w u env author c),
       asked_nodes w env (state_for_dry_run w.instance.special s) u is c (subst (λ o. AreItemsIfTaken w (state_for_dry_run w.instance.special s) (option_map (expand_nodes env) o) is) there inside),
-      takes_branch w u env c r.branch (branch ∙ there),
+      takes_branch w u env c r.branch (place ∙ there),
     )
 
 -- the result for substitutes, by that for the nodes that they take
