@@ -46,7 +46,7 @@ class Processor:
         found = program or os.environ.get("SULLEQTI_SERVE") or shutil.which("csl_serve")
         if not found:
             raise FileNotFoundError("there is no csl_serve on PATH, and SULLEQTI_SERVE names none")
-        self.timeout, self.names = timeout, itertools.count(1)
+        self.timeout, self.is_late, self.names = timeout, False, itertools.count(1)
         self.lock, self.said = threading.Lock(), collections.deque(maxlen=MOST_LINES)
         self.process = subprocess.Popen([found] if isinstance(found, str) else list(found),
                                         stdin=subprocess.PIPE, stdout=subprocess.PIPE,
@@ -76,26 +76,39 @@ class Processor:
             except OSError:
                 pass
 
+    def end_late(self) -> None:
+        """Ends the program, which has not answered in time."""
+        self.is_late = True
+        self.process.kill()
+
+    def answer(self, line: bytes) -> bytes:
+        """The line that answers a line, or less if there is none."""
+        timer = threading.Timer(self.timeout, self.end_late)
+        timer.start()
+        try:
+            self.process.stdin.write(line)
+            self.process.stdin.flush()
+            return self.process.stdout.readline()
+        except (OSError, ValueError):
+            return b""
+        except BaseException:
+            # (or the next request would get the answer to this one)
+            self.process.kill()
+            raise
+        finally:
+            timer.cancel()
+
     def ask(self, op: str, **members: Any) -> Any:
         """The answer to a request (docs/HOSTS.md). It raises `Refused` with the place in the request
         if that is refused."""
         line = json.dumps({"op": op, **members}).encode() + b"\n"
         with self.lock:
-            timer = threading.Timer(self.timeout, self.process.kill)
-            timer.start()
-            try:
-                self.process.stdin.write(line)
-                self.process.stdin.flush()
-                answer = self.process.stdout.readline()
-            except (OSError, ValueError):
-                answer = b""
-            finally:
-                timer.cancel()
+            answer = self.answer(line)
             if not answer.endswith(b"\n"):
                 self.close()
-                told = b"".join(self.said).decode(errors="replace")
-                raise ServerEnded(f"csl_serve ended with {self.process.returncode}, perhaps since "
-                                  f"an answer may take {self.timeout:g} seconds: {told}")
+                status, told = self.process.returncode, b"".join(self.said).decode(errors="replace")
+                raise ServerEnded(f"csl_serve did not answer in {self.timeout:g} seconds"
+                                  if self.is_late else f"csl_serve ended with {status}: {told}")
         return answer_of(json.loads(answer))
 
     def style(self, path: str, locale: str | None = None) -> ProcessorStyle:
@@ -135,6 +148,10 @@ class ProcessorStyle:
         """The works of a file of CSL-JSON, or of a list of its items."""
         return Works(self, items)
 
+    def drop(self) -> None:
+        """Forgets the style: its name is unknown to the program from now on."""
+        self.processor.ask("drop", styles=[self.name])
+
 
 class Works:
     """Works in a style, by their `id`. What is left out of them is in `warnings`, a line each with
@@ -163,6 +180,10 @@ class Works:
         item = {"work": self.prefix + id, **members}
         answers = self.style.processor.ask(op, style=self.style.name, **{list_name: [item]}, **more)
         return answer_of(answers[0])
+
+    def drop(self) -> None:
+        """Forgets the works."""
+        self.style.processor.ask("drop", works=[self.prefix + it for it in self.ids])
 
     def cite(self, id: str, locator: Tuple[str, str] | None = None, **cite: Any) -> Content:
         """The cite of a work, alone, without the texts around it. What `cite` has is as in

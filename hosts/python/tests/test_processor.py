@@ -47,7 +47,7 @@ class StandIns(unittest.TestCase):
         """A program that does not answer is ended."""
         processor = stands_in("time.sleep(60)")
         processor.timeout, start = 0.5, time.monotonic()
-        with self.assertRaises(sulleqti.ServerEnded):
+        with self.assertRaisesRegex(sulleqti.ServerEnded, "did not answer in 0.5 seconds"):
             processor.ask("hello")
         self.assertLess(time.monotonic() - start, 10)
 
@@ -80,8 +80,13 @@ class Served(unittest.TestCase):
             self.assertEqual(works.sort_key("7", variable="title"), "Line by line")
             given = processor.style(STYLE).works([{"id": 1, "type": "book", "titel": "T"}, 7])
             self.assertEqual(given.warnings[1], "item 2: an item has to be an object")
-            with self.assertRaisesRegex(sulleqti.Refused, "no work is kept by this name"):
-                given.cite("kwan")
+            works.drop()
+            for it in works, given:
+                with self.assertRaisesRegex(sulleqti.Refused, "no work is kept by this name"):
+                    it.cite("kwan")
+            works.style.drop()
+            with self.assertRaisesRegex(sulleqti.Refused, "no style is kept by this name"):
+                works.cite("kwan")
 
 
 if __name__ == "__main__":
