@@ -99,8 +99,8 @@ class Processor:
             timer.cancel()
 
     def ask(self, op: str, **members: Any) -> Any:
-        """The answer to a request (docs/HOSTS.md). It raises `Refused` with the place in the request
-        if that is refused."""
+        """The answer to a request (docs/HOSTS.md). It raises `Refused` with the place in the
+        request if that is refused."""
         line = json.dumps({"op": op, **members}).encode() + b"\n"
         with self.lock:
             answer = self.answer(line)
