@@ -255,13 +255,13 @@ impl<'s, T> Context<'s, T> {
         Ok(Rendered { content, state })
     }
 
-    /// Sets how many bytes this context may still write. Each text takes its bytes, each element and
-    /// each text, markup or link of its own 64 more, and an element with names the texts of its
-    /// persons. What is dropped again takes them too. A text that is made before it is written takes
-    /// bytes when it is made as well: a text whose periods are stripped its own, each number 24, a
-    /// shortened given name those of the text after an initial for each of its bytes. Dry runs take
-    /// none. A call that needs more than are left fails as if memory had run out. A new context has
-    /// no limit.
+    /// Sets how many bytes this context may still write. Each text takes its bytes, each element
+    /// and each text, markup or link of its own 64 more, and an element with names the texts of its
+    /// persons. What is dropped again takes them too. A text that is made before it is written
+    /// takes bytes when it is made as well: a text whose periods are stripped its own, each number
+    /// 24, a shortened given name those of the text after an initial for each of its bytes. Dry
+    /// runs take none. A call that needs more than are left fails as if memory had run out. A new
+    /// context has no limit.
     pub fn limit(&mut self, bytes: u64)
         ensures { self.new ≡ self.old }
     {

@@ -28,7 +28,8 @@ impl<'a> LentText<'a> {
         }
     }
 
-    /// Whether each character of the text is white space (Unicode White_Space); true if it is empty.
+    /// Whether each character of the text is white space (Unicode White_Space); true if it is
+    /// empty.
     #[tactic(auto, using(crate::proofs::LentTexts::text_of_one))]
     pub fn is_white_space(&self) -> bool
         ensures { result ≡ is_white_space (lent_chunks self.now) }

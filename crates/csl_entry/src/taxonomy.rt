@@ -51,8 +51,8 @@ pub trait EntryLike {
         ensures { IfOk result (λ found. option_map (maybe_view pages_view) found
             ≡ (answers self.now).pages variable) };
 
-    /// Returns the same as [`EntryLike::resolve_page_variable`], lent if the entry holds it. Labels,
-    /// tests and dry runs ask this. By default it is the answer of that call, owned.
+    /// Returns the same as [`EntryLike::resolve_page_variable`], lent if the entry holds it.
+    /// Labels, tests and dry runs ask this. By default it is the answer of that call, owned.
     fn lend_pages(
         &self,
         alloc: Global,
@@ -77,8 +77,8 @@ pub trait EntryLike {
         ensures { IfOk result (λ found. option_map (cow_view chunks) found
             ≡ (answers self.now).standards form variable) };
 
-    /// Returns the same as [`EntryLike::resolve_standard_variable`], lent if the entry holds it. Tests
-    /// and dry runs ask this. By default it is the answer of that call.
+    /// Returns the same as [`EntryLike::resolve_standard_variable`], lent if the entry holds it.
+    /// Tests and dry runs ask this. By default it is the answer of that call.
     fn lend_text(
         &self,
         alloc: Global,
@@ -104,8 +104,8 @@ pub trait EntryLike {
         ensures { IfOk result (λ found. map (cow_view person_view) found.items
             ≡ (answers self.now).names variable) };
 
-    /// Whether [`EntryLike::resolve_name_variable`] returns a person. Tests and dry runs ask this. By
-    /// default that call answers it.
+    /// Whether [`EntryLike::resolve_name_variable`] returns a person. Tests and dry runs ask this.
+    /// By default that call answers it.
     fn has_persons(&self, alloc: Global, variable: NameVariable) -> Result<bool, Memory>
         ensures { IfOk result (λ found. found
             ≡ not (length ((answers self.now).names variable) == 0)) }

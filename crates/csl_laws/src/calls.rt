@@ -1,5 +1,5 @@
-//! Callers of functions with a condition that no library meets: a form that is replaced, the items of
-//! a stack, and parts for affixes and quotes.
+//! Callers of functions with a condition that no library meets: a form that is replaced, the items
+//! of a stack, and parts for affixes and quotes.
 //! Definitions: crates/csl_entry/specs/NameProperties.antt.
 
 ghost use Rattle.std.specs.Prelude.{◌≡◌, IfOk, IfSome, OnOk, drop};

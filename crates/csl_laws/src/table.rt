@@ -19,8 +19,8 @@ use lit_model::{
 use std::alloc::Global;
 use std::borrow::{Cow, CowStr};
 
-/// An entry that is a table. The first answer to a variable counts. All page variables have the same
-/// answer.
+/// An entry that is a table. The first answer to a variable counts. All page variables have the
+/// same answer.
 #[derive(Drop)]
 pub struct Table {
     pub numbers: Vec<(NumberVariable, MaybeTyped<Numeric>)>,

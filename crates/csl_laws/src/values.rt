@@ -105,7 +105,8 @@ pub fn same_pages(a: &PageRanges, b: &PageRanges) -> bool
     *a == *b
 }
 
-/// Whether the parts of pages are equal: exactly if their views are. Equal parts have the same hash.
+/// Whether the parts of pages are equal: exactly if their views are. Equal parts have the same
+/// hash.
 #[tactic(auto, using(lit_model::proofs::PageEqual::part_decides))]
 pub fn same_part(a: &PageRangesPart, b: &PageRangesPart) -> bool
     ensures equal { IsTrue result ↔ (part_view a.now ≡ part_view b.now) }

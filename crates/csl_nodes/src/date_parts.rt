@@ -229,8 +229,8 @@ fn write_part<'s, T: EntryLike>(
     Ok(())
 }
 
-/// Renders a part, with the node's own part of its name over it. The form for the year suffix leaves
-/// out its affixes.
+/// Renders a part, with the node's own part of its name over it. The form for the year suffix
+/// leaves out its affixes.
 fn render_part<'s, T: EntryLike>(
     ctx: &mut Context<'s, T>,
     written: LocalizedDate<'_>,

@@ -50,7 +50,8 @@ pub(crate) fn begins_link(text: &Text, variable: StandardVariable) -> bool
 
 /// An address: the prefix, then the answer.
 pub(crate) fn address(alloc: Global, prefix: &str, answer: &ChunkedString) -> Result<String, Memory>
-    ensures { IfOk result (λ url. string_bytes url ≡ prefix.now ++ chunks_text (chunks answer.now)) }
+    ensures { IfOk result (λ url.
+        string_bytes url ≡ prefix.now ++ chunks_text (chunks answer.now)) }
 {
     let text = answer.to_text(alloc)?;
     let mut url = String::with_capacity(alloc, prefix.len().saturating_add(text.len()))?;

@@ -1,5 +1,5 @@
-//! A walk through all nodes of a list, at any depth (CSL 1.0.2, Rendering Elements). It keeps what is
-//! left in a list, so that no style is too deep for it.
+//! A walk through all nodes of a list, at any depth (CSL 1.0.2, Rendering Elements). It keeps what
+//! is left in a list, so that no style is too deep for it.
 
 ghost use Rattle.std.specs.Prelude.{◌≡◌, [], ◌∷◌, ◌++◌, None, IfOk, IfSome, OnOk, option_map};
 ghost use Rattle.csl_elements.specs.View.{view_node, view_nodes, view_choose, view_names, view_child};

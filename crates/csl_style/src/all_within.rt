@@ -1,5 +1,5 @@
-//! Limits for a whole style from a stranger: for its layouts, and for each of its macros, since a sort
-//! key may call any of them (CSL 1.0.2, Macro; Sorting).
+//! Limits for a whole style from a stranger: for its layouts, and for each of its macros, since a
+//! sort key may call any of them (CSL 1.0.2, Macro; Sorting).
 
 ghost use Rattle.std.specs.Prelude.{◌≡◌, ℕ, ◌<◌, length, IfOk, IfSome, IfNone, IsTrue, IsFalse};
 ghost use Rattle.csl_elements.specs.Node.{LayoutNode, expand_nodes};
@@ -120,9 +120,9 @@ impl Style {
     /// [`Style::rendered_within`]: that of the citation, that of the bibliography, and each that is
     /// one text of a macro or of a variable, as those of sort keys are.
     ///
-    /// Check this before you render with a style from a stranger. The number of steps grows with the
-    /// nodes of the style, whatever the limits are, and its stack with the smaller of the depth and its
-    /// limit.
+    /// Check this before you render with a style from a stranger. The number of steps grows with
+    /// the nodes of the style, whatever the limits are, and its stack with the smaller of the depth
+    /// and its limit.
     #[tactic(auto, using(crate::proofs::AllWithins::not_citation, crate::proofs::AllWithins::not_bibliography))]
     pub fn all_within(
         &self,

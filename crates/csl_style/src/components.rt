@@ -1,13 +1,14 @@
 //! The components of a graph: two places lead to each other exactly if they are in one component
-//! (R. Tarjan, Depth-First Search and Linear Graph Algorithms, 1972). No contract here says so: `cycles`
-//! tests the levels, and the order of the places decides only how long a search takes.
+//! (R. Tarjan, Depth-First Search and Linear Graph Algorithms, 1972). No contract here says so:
+//! `cycles` tests the levels, and the order of the places decides only how long a search takes.
 
 use std::alloc::{AllocError, Global};
 
 /// The components of a graph, in an order.
 #[derive(Drop)]
 pub(crate) struct Components {
-    /// For each place, the number of its component. No edge leads to a component of a higher number.
+    /// For each place, the number of its component. No edge leads to a component of a higher
+    /// number.
     pub(crate) levels: Vec<usize>,
     /// The places, those of a lower component first.
     pub(crate) callees_first: Vec<usize>,

@@ -28,7 +28,8 @@ fn reach(alloc: Global, graph: &[Vec<usize>], from: usize) -> Result<Vec<bool>, 
     Ok(seen)
 }
 
-/// Whether no edge leads to a place of a higher level, and each level is below the number of places.
+/// Whether no edge leads to a place of a higher level, and each level is below the number of
+/// places.
 fn are_levels(graph: &[Vec<usize>], levels: &[usize]) -> bool
     requires { InRange graph.now (length graph.now) }
     ensures { IsTrue result → ArePlaceLevels graph.now levels.now }
@@ -85,9 +86,9 @@ fn first_by_searches(alloc: Global, graph: &[Vec<usize>]) -> Result<Option<usize
 }
 
 /// The first place that leads back to itself, if there is one. Row i of the graph lists the places
-/// that the edges from place i lead to. The levels are those of the graph's components: the first place
-/// with an edge inside its component is the first on a cycle, and one search confirms it. Other levels
-/// change no result, but cost a search from each place.
+/// that the edges from place i lead to. The levels are those of the graph's components: the first
+/// place with an edge inside its component is the first on a cycle, and one search confirms it.
+/// Other levels change no result, but cost a search from each place.
 pub(crate) fn first_cyclic(
     alloc: Global,
     graph: &[Vec<usize>],

@@ -176,8 +176,8 @@ impl Style {
     ///
     /// Ask this only of a layout that [`Style::expanded_size`] limits: the number of steps grows
     /// with the size, even if the depth is small. For a style from a stranger,
-    /// [`Style::expanded_within`] checks both at once. The function allocates nothing, and its stack
-    /// grows with the smaller of the depth and `most`.
+    /// [`Style::expanded_within`] checks both at once. The function allocates nothing, and its
+    /// stack grows with the smaller of the depth and `most`.
     pub fn expanded_depth(&self, layout: &Layout, most: usize) -> Option<usize>
         ensures some { IfSome result (λ depth. (depth
             ≡ layout_depth (expand_layout (macro_env self.now) (view_layout layout.now)))

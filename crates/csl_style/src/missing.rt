@@ -115,8 +115,8 @@ impl Style {
     /// The first macro name that the style calls but does not define. The search goes through the
     /// layout of citations, that of the bibliography, and then all macros in order, also those that
     /// no layout reaches. It passes over macros that an earlier one of the same name hides. A call
-    /// of a missing macro prints nothing, so check a style that you wrote. In one from a stranger, a
-    /// macro that no layout reaches may be too deep for the stack, and no question covers it.
+    /// of a missing macro prints nothing, so check a style that you wrote. In one from a stranger,
+    /// a macro that no layout reaches may be too deep for the stack, and no question covers it.
     ///
     /// The search allocates nothing, and looks up the name of each call and of each macro at most
     /// once.

@@ -1,5 +1,5 @@
-//! The terms that a layout asks for and that no locale has (CSL 1.0.2, Terms; Text; Label; Locators;
-//! Date; Name: and; Et-al; Formatting: quotes).
+//! The terms that a layout asks for and that no locale has (CSL 1.0.2, Terms; Text; Label;
+//! Locators; Date; Name: and; Et-al; Formatting: quotes).
 
 ghost use Rattle.std.specs.Prelude.{◌≡◌, [], ◌∷◌, map, Some, IfOk, IfSome, option_map, slice_get};
 ghost use Rattle.std.specs.Option.{option_or};
@@ -523,20 +523,20 @@ fn scope_of_layout(style: &Style) -> TermScope
 
 impl Style {
     /// The terms that a layout asks for and that no locale has, in their form or in one that this
-    /// falls back to (CSL 1.0.2, Terms), each once. A missing term prints nothing, and a missing era
-    /// ` AD` or ` BC`, so check the locales of a style that you wrote. Some are meant to be missing:
-    /// CSL's own locales have no noun for authors, nor terms of all kinds of locators. Filter those
-    /// out that you expect.
+    /// falls back to (CSL 1.0.2, Terms), each once. A missing term prints nothing, and a missing
+    /// era ` AD` or ` BC`, so check the locales of a style that you wrote. Some are meant to be
+    /// missing: CSL's own locales have no noun for authors, nor terms of all kinds of locators.
+    /// Filter those out that you expect.
     ///
     /// The search goes through the layout and the macros that it reaches, in written order. A text
     /// of a term asks for the term; a label for that of its variable; a text in quotes for both
     /// quotes; names for `and`, if they write it as a word, for et al., and for the label of each
-    /// variable; a year for the eras, and a month for the seasons in its place. Each branch and each
-    /// substitute counts, and so does what only some entries need, such as `and`. A layout does not
-    /// tell its scope, so `and` counts if names write it in one of the two. A label of the locator
-    /// asks for the term of each kind, because each cite has its own. Months, which print as
-    /// numbers, ordinals, the delimiter of page ranges and `editortranslator`, which adds no text,
-    /// are not among these terms.
+    /// variable; a year for the eras, and a month for the seasons in its place. Each branch and
+    /// each substitute counts, and so does what only some entries need, such as `and`. A layout
+    /// does not tell its scope, so `and` counts if names write it in one of the two. A label of the
+    /// locator asks for the term of each kind, because each cite has its own. Months, which print
+    /// as numbers, ordinals, the delimiter of page ranges and `editortranslator`, which adds no
+    /// text, are not among these terms.
     ///
     /// Ask this only of a layout that [`Style::expanded_within`] limits: the number of steps grows
     /// with the size and with the number of the missing terms, and the stack with the depth.

@@ -219,8 +219,8 @@ fn add_node(named: &mut Named, node: &LayoutRenderingElement) -> Result<(), Memo
     }
 }
 
-/// The macro that a node calls, unless its place is marked or the style lacks it. The place is marked
-/// then.
+/// The macro that a node calls, unless its place is marked or the style lacks it. The place is
+/// marked then.
 fn unmarked_macro<'s>(
     style: &'s Style,
     seen: &mut Vec<bool>,

@@ -12,8 +12,8 @@ use csl_elements::CslMacro;
 use std::alloc::{AllocError, Global};
 use std::collections::{BTreeMap, HashMap};
 
-/// The most macros that a hash map holds, as many as the largest published style has. If their names
-/// are chosen to collide, a look-up is a scan of them.
+/// The most macros that a hash map holds, as many as the largest published style has. If their
+/// names are chosen to collide, a look-up is a scan of them.
 const MOST_HASHED: usize = 67;
 
 /// The place of the first macro of each name. A hash map finds the macros of a usual style soonest.

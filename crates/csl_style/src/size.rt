@@ -1,5 +1,5 @@
-//! The size of a layout with all macros expanded, and how much of it one rendering goes through (CSL
-//! 1.0.2, Macro; Choose; Localized Date Formats).
+//! The size of a layout with all macros expanded, and how much of it one rendering goes through
+//! (CSL 1.0.2, Macro; Choose; Localized Date Formats).
 
 ghost use Prim.Native.Nat.{min};
 ghost use Rattle.std.specs.Prelude.{◌≡◌, true, false, [], ◌+◌, ◌<◌, ◌≤◌, ◌⊎◌, length, option_map, IfSome, IfNone, IsTrue, IsFalse, if◌then◌else◌};
@@ -72,8 +72,8 @@ fn room_after_branch(before: u64, after: u64, once: bool) -> u64
     if once { before } else { after }
 }
 
-/// What is known of the nodes of a macro: their size, how much of it one rendering goes through, and
-/// their depth.
+/// What is known of the nodes of a macro: their size, how much of it one rendering goes through,
+/// and their depth.
 #[derive(Clone, Copy)]
 pub(crate) struct MacroSize {
     pub(crate) all: u64,
@@ -81,7 +81,8 @@ pub(crate) struct MacroSize {
     pub(crate) depth: usize,
 }
 
-/// The size of a node that calls a macro, or how much of it one rendering goes through, and its depth.
+/// The size of a node that calls a macro, or how much of it one rendering goes through, and its
+/// depth.
 #[derive(Clone, Copy)]
 pub(crate) struct CallSize {
     size: u64,
@@ -323,8 +324,8 @@ fn room_left_by_choose<const ONCE: bool>(
     }
 }
 
-/// The room that is left after a layout, which counts one, or `None` if the layout is larger than the
-/// room or deeper than `most`.
+/// The room that is left after a layout, which counts one, or `None` if the layout is larger than
+/// the room or deeper than `most`.
 fn room_left_by_layout(
     style: &Style,
     known: &[Option<MacroSize>],
@@ -345,7 +346,8 @@ fn room_left_by_layout(
     room_left_by_all::<false>(style, known, &layout.elements, left, inside)
 }
 
-/// Whether a layout is within limits of what one rendering goes through, of its size and of its depth.
+/// Whether a layout is within limits of what one rendering goes through, of its size and of its
+/// depth.
 pub(crate) fn is_layout_within(
     style: &Style,
     known: &[Option<MacroSize>],
@@ -378,9 +380,9 @@ impl Style {
     /// above `most`.
     ///
     /// The layout counts one, and so does each node of a list. A group, a names node, a choose and
-    /// a call of a macro that the style has count one more. So does each branch, `cs:else` included.
-    /// The lists that a node holds count too: each part of a date, each item of a test, and each
-    /// variable, each child and each `cs:name-part` of a names node.
+    /// a call of a macro that the style has count one more. So does each branch, `cs:else`
+    /// included. The lists that a node holds count too: each part of a date, each item of a test,
+    /// and each variable, each child and each `cs:name-part` of a names node.
     ///
     /// Within a limit of depth, the time and memory of a rendering are bounded by this size times
     /// what the entry, the texts of the style and its locales hold. Forty macros that each call the
@@ -402,9 +404,9 @@ impl Style {
     /// Whether a layout with all macros expanded has at most this size and this depth, as
     /// [`Style::expanded_size`] and [`Style::expanded_depth`] count them.
     ///
-    /// The function allocates nothing. Its number of steps grows with the smaller of the size and its
-    /// limit, and its stack with the smaller of the depth and its limit. [`Style::rendered_within`]
-    /// limits what one rendering takes of this size too.
+    /// The function allocates nothing. Its number of steps grows with the smaller of the size and
+    /// its limit, and its stack with the smaller of the depth and its limit.
+    /// [`Style::rendered_within`] limits what one rendering takes of this size too.
     pub fn expanded_within(&self, layout: &Layout, size: u64, depth: usize) -> bool
         ensures within { IsTrue result
             → (layout_size (expand_layout (macro_env self.now) (view_layout layout.now)) ≤ size)
@@ -416,19 +418,19 @@ impl Style {
         room_left_by_layout(self, &[], layout, size, depth).is_some()
     }
 
-    /// Whether a layout with all macros expanded has at most the size `all` and the depth `depth`, as
-    /// in [`Style::expanded_within`], and one rendering goes through at most `size` of it.
+    /// Whether a layout with all macros expanded has at most the size `all` and the depth `depth`,
+    /// as in [`Style::expanded_within`], and one rendering goes through at most `size` of it.
     ///
     /// A rendering takes one branch of a choose, so of its branches only the largest way through
     /// counts: the tests up to a branch, and the nodes of that branch. A localized date counts the
     /// parts of the style's date of its form too.
     ///
-    /// Check this before you render with a style from a stranger. It does not count locales, texts and
-    /// what an entry holds: limit the style's file and the entry too. The function allocates nothing.
-    /// Its number of steps grows with the smaller of the size of the layout and `all`, times the
-    /// locales and dates that the lookup of a localized date goes through, and its stack with the
-    /// smaller of the depth and its limit. Forty macros that each call the next in two branches have a
-    /// small `size`, but `all` has to be above 2^40.
+    /// Check this before you render with a style from a stranger. It does not count locales, texts
+    /// and what an entry holds: limit the style's file and the entry too. The function allocates
+    /// nothing. Its number of steps grows with the smaller of the size of the layout and `all`,
+    /// times the locales and dates that the lookup of a localized date goes through, and its stack
+    /// with the smaller of the depth and its limit. Forty macros that each call the next in two
+    /// branches have a small `size`, but `all` has to be above 2^40.
     pub fn rendered_within(&self, layout: &Layout, size: u64, all: u64, depth: usize) -> bool
         ensures within { IsTrue result → (rendered_size self.now.locales
             (expand_layout (macro_env self.now) (view_layout layout.now)) ≤ size)

@@ -116,7 +116,8 @@ fn checked_macros(
     format: Option<PageRangeFormat>,
     macros: &[CslMacro],
 ) -> Result<CheckedMacros, StyleError>
-    ensures places { IfOk result (λ checked. ArePlacesByName checked.places (definitions macros.now)) }
+    ensures places { IfOk result (λ checked.
+        ArePlacesByName checked.places (definitions macros.now)) }
     ensures ranks { OnOk result (IsAcyclic (definitions macros.now)) }
     ensures format { OnOk result (is_chicago format ≡ false) }
     ensures refused { IfErr result (IsRefusal format (definitions macros.now)) }
@@ -153,8 +154,8 @@ fn first_macro<'s>(macros: &'s [CslMacro], places: &Places, name: &str) -> Optio
 
 impl Style {
     /// Returns a style of these parts. If several macros have one name, calls use the first. On an
-    /// error, the parts are dropped. The number of steps is in proportion to the nodes of the style, and
-    /// their depth takes no stack.
+    /// error, the parts are dropped. The number of steps is in proportion to the nodes of the
+    /// style, and their depth takes no stack.
     ///
     /// # Errors
     /// [`StyleError::Memory`]: out of memory. It may come instead of either of the others.
@@ -276,8 +277,8 @@ impl Style {
         self.places.get(name)
     }
 
-    /// The places of the macros, in an order in which each comes after those that it calls, though no
-    /// contract says so. A name stands for the nodes of its first macro.
+    /// The places of the macros, in an order in which each comes after those that it calls, though
+    /// no contract says so. A name stands for the nodes of its first macro.
     pub(crate) fn callees_first(&self) -> &[usize]
         ensures { (name : List ℕ) → NameMeans self.now name }
     {

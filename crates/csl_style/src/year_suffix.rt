@@ -148,8 +148,8 @@ fn is_suffix_text(node: &LayoutRenderingElement) -> bool
     }
 }
 
-/// Whether a text of the year suffix is in any of the elements, at any depth, or in a macro that they
-/// reach. The nodes of a macro that is not known yet are gone through in its place.
+/// Whether a text of the year suffix is in any of the elements, at any depth, or in a macro that
+/// they reach. The nodes of a macro that is not known yet are gone through in its place.
 #[tactic(auto, using(crate::proofs::AllNodesLaws::year_suffix_laws))]
 fn any_has_year_suffix<'s>(
     alloc: Global,

@@ -1,5 +1,5 @@
-//! A tree under construction, in one flat list: the children of all open parts, and beside it a mark
-//! for each part, which is the place of its first child.
+//! A tree under construction, in one flat list: the children of all open parts, and beside it a
+//! mark for each part, which is the place of its first child.
 
 ghost use Rattle.std.specs.Prelude.{◌≡◌, ◌+◌, ◌<◌, ◌≤◌, true, not, [], ◌∷◌, length, take, drop, OnOk, IfOk, OnErr, vec_len, vec_capacity};
 ghost use Rattle.std.specs.Bool.{OnTrue, OnFalse};
@@ -42,8 +42,8 @@ pub struct FlatTree {
     start: usize,
     /// The marks of the parts around it, from the root inwards.
     around: Vec<usize>,
-    /// What may still be written. It is not part of the model: a call that finds too little fails as
-    /// one that finds no memory.
+    /// What may still be written. It is not part of the model: a call that finds too little fails
+    /// as one that finds no memory.
     room: Room,
 }
 

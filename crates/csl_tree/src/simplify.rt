@@ -31,7 +31,8 @@ pub fn simplify_children(alloc: Global, children: &ElemChildren) -> Result<ElemC
     ensures fewer { IfOk result (λ r.
         OnFalse (is_normal (tree children.now))
         (node_count (tree r) < node_count (tree children.now))) }
-    ensures as_tokens { IfOk result (λ r. tokens r ≡ tokens_of (simplify_once (tree children.now))) }
+    ensures as_tokens { IfOk result (λ r.
+        tokens r ≡ tokens_of (simplify_once (tree children.now))) }
 {
     let mut simplified = Vec::new(alloc);
     for child in &children.0 {

@@ -21,6 +21,8 @@ code_name code.TooLong = codes "too-long"
 code_name code.TooDeep = codes "too-deep"
 code_name code.CyclicMacro = codes "cyclic-macro"
 code_name code.Unsupported = codes "unsupported"
+code_name code.TooLarge = codes "too-large"
+code_name code.Full = codes "full"
 
 -- the text of a step, which begins with a slash
 abbrev pub step_text : Step → List ℕ

@@ -17,7 +17,7 @@ mod locales;
 mod name_options;
 mod name_parts;
 mod named;
-mod names;
+pub mod names;
 mod nearest;
 mod nodes;
 mod refusal;

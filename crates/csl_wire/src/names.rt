@@ -1,7 +1,7 @@
 //! The names of the library's variables, types, locators, terms and languages.
 
 /// The names of the standard variables (CSL 1.0.2, Appendix IV: Variables).
-pub(crate) static STANDARD_VARIABLES: [&str; 47] = [
+pub static STANDARD_VARIABLES: [&str; 47] = [
     "abstract",
     "annote",
     "archive",
@@ -52,7 +52,7 @@ pub(crate) static STANDARD_VARIABLES: [&str; 47] = [
 ];
 
 /// The names of the number variables.
-pub(crate) static NUMBER_VARIABLES: [&str; 17] = [
+pub static NUMBER_VARIABLES: [&str; 17] = [
     "chapter-number",
     "citation-number",
     "collection-number",
@@ -73,10 +73,10 @@ pub(crate) static NUMBER_VARIABLES: [&str; 17] = [
 ];
 
 /// The names of the page variables.
-pub(crate) static PAGE_VARIABLES: [&str; 1] = ["page"];
+pub static PAGE_VARIABLES: [&str; 1] = ["page"];
 
 /// The names of the date variables.
-pub(crate) static DATE_VARIABLES: [&str; 6] = [
+pub static DATE_VARIABLES: [&str; 6] = [
     "accessed",
     "available-date",
     "event-date",
@@ -86,7 +86,7 @@ pub(crate) static DATE_VARIABLES: [&str; 6] = [
 ];
 
 /// The names of the name variables.
-pub(crate) static NAME_VARIABLES: [&str; 27] = [
+pub static NAME_VARIABLES: [&str; 27] = [
     "author",
     "chair",
     "collection-editor",
@@ -117,7 +117,7 @@ pub(crate) static NAME_VARIABLES: [&str; 27] = [
 ];
 
 /// The names of types (CSL 1.0.2, Appendix III: Types).
-pub(crate) static KINDS: [&str; 45] = [
+pub static KINDS: [&str; 45] = [
     "article",
     "article-journal",
     "article-magazine",
@@ -166,7 +166,7 @@ pub(crate) static KINDS: [&str; 45] = [
 ];
 
 /// The names of locators (CSL 1.0.2, Locators).
-pub(crate) static LOCATORS: [&str; 28] = [
+pub static LOCATORS: [&str; 28] = [
     "act",
     "appendix",
     "book",
@@ -198,7 +198,7 @@ pub(crate) static LOCATORS: [&str; 28] = [
 ];
 
 /// The names of the terms of no variable and no locator (CSL 1.0.2, Appendix II: Terms).
-pub(crate) static OTHER_TERMS: [&str; 48] = [
+pub static OTHER_TERMS: [&str; 48] = [
     "and",
     "et-al",
     "ad",
@@ -250,7 +250,7 @@ pub(crate) static OTHER_TERMS: [&str; 48] = [
 ];
 
 /// The tags of the languages that have a locale.
-pub(crate) static LANGUAGES: [&str; 11] = [
+pub static LANGUAGES: [&str; 11] = [
     "en-US", "en-GB", "de-DE", "fr-FR", "es-ES", "it-IT", "pt-BR", "nl-NL", "pl-PL", "ja-JP",
     "zh-CN",
 ];

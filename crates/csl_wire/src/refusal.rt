@@ -60,6 +60,10 @@ pub enum Code {
     CyclicMacro,
     /// The library does not have this part of CSL.
     Unsupported,
+    /// A request, what it renders, its reply or a style is larger than a session allows.
+    TooLarge,
+    /// What is kept would be larger than a session allows.
+    Full,
 }
 
 impl Code {
@@ -78,6 +82,8 @@ impl Code {
             Code::TooDeep => "too-deep",
             Code::CyclicMacro => "cyclic-macro",
             Code::Unsupported => "unsupported",
+            Code::TooLarge => "too-large",
+            Code::Full => "full",
         }
     }
 }
@@ -198,7 +204,7 @@ impl WireError {
 
     /// The refusal of a value for a word, and perhaps the name that is nearest to it. A long word is
     /// not named.
-    pub(crate) fn of_word(
+    pub fn of_word(
         alloc: Global,
         code: Code,
         reason: &'static str,

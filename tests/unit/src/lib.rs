@@ -16,6 +16,8 @@ mod csl_list_tests;
 #[cfg(test)]
 mod csl_render_tests;
 #[cfg(test)]
+mod csl_session_tests;
+#[cfg(test)]
 mod csl_style_tests;
 #[cfg(test)]
 mod csl_tests;
@@ -23,6 +25,8 @@ mod csl_tests;
 mod csl_tree_tests;
 #[cfg(test)]
 mod csl_wire_cite_tests;
+#[cfg(test)]
+mod csl_wire_reply_tests;
 #[cfg(test)]
 mod csl_wire_tests;
 #[cfg(test)]

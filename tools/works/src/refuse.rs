@@ -4,6 +4,7 @@ mod cites;
 mod copies;
 mod failed;
 mod made;
+mod session;
 mod styles;
 mod trees;
 mod wire;
@@ -48,6 +49,8 @@ pub fn result(alloc: Global, name: &str) -> Result<String, WorkError> {
         "copy-tree" => copies::tree(alloc),
         "wire-entry" => wire::entry(alloc),
         "wire-cite" => wire::cite(alloc),
+        "session" => session::replies(alloc),
+        "session-lines" => session::lines(alloc),
         _ => Err(WorkError::Unexpected("no such work")),
     }
 }

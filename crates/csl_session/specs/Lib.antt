@@ -1,0 +1,3 @@
+-- The definitions that the contracts of `csl_session` cite.
+pub mod Kept
+pub mod Replies

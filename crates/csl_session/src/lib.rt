@@ -1,0 +1,22 @@
+//! Requests and replies as JSON (docs/HOSTS.md): a [`Session`] keeps styles and works by names,
+//! and renders cites, lines of a bibliography and sort keys by them. [`serve`] answers a request a
+//! line.
+//!
+//! An error that the docs of a call do not explain means out of memory.
+#![tactic(auto)]
+
+mod asked;
+mod hello;
+mod keeping;
+mod kept;
+mod limits;
+mod lines;
+mod op;
+mod rendering;
+mod replies;
+mod session;
+mod style_facts;
+
+pub use limits::{SessionLimits, StyleLimits};
+pub use lines::{Ending, serve};
+pub use session::Session;

@@ -1,0 +1,7 @@
+//! Tests of requests and replies. Expected values are those of docs/HOSTS.md and of CSL, written out
+//! by hand.
+
+mod bounds;
+mod conversation;
+mod over_lines;
+mod requests;

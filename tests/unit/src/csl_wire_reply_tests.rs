@@ -1,0 +1,5 @@
+//! Tests of contents as JSON. Expected values are those of docs/WIRE.md, Replies.
+
+mod contents;
+mod random;
+mod reading;
