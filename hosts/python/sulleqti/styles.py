@@ -83,11 +83,11 @@ class Style:
         self.locales = list(locales) or [self.default_locale()]
         self.language = language_of(self.locales[0])
         self.left: Counter[str] = collections.Counter()
-        self.elements, self.tree = Elements(self.left), {}
+        self.elements, self.tree = Elements(self.left), {"style": {}}
         # (the keys by a macro that limit names)
         self.limited: List[Tuple[Tree, Tree]] = []
-        macros = macros_of(self.root)
-        style = self.tree["style"] = self.settings()
+        macros, style = macros_of(self.root), self.tree["style"]
+        style.update(self.settings())
         for name in LAYOUTS:
             if (node := self.root.first(name)) is not None:
                 style[name].update(self.layout(node))

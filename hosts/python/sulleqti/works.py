@@ -6,7 +6,7 @@ import difflib
 import json
 import math
 import re
-from typing import Any, Counter, Dict, Iterable, Iterator, List, Tuple, Union
+from typing import Any, Counter, Dict, Iterable, Iterator, List, Sequence, Tuple, Union
 
 from sulleqti.attributes import Tree
 from sulleqti.document import Refused, content_of
@@ -319,15 +319,16 @@ class WorksFile:
         self.known = at
         return f"{self.path}:{self.line}"
 
-    def line_of(self, name: str, at: int, end: int) -> int:
-        """The line of a variable of the item between two places, or else that of the item."""
+    def place_of(self, name: str, at: int, end: int) -> str:
+        """The file and the line of a variable of the item between two places, or else of the
+        item."""
         found = self.text.find(f'"{name}"', at, end)
         while found >= 0:
             after = self.skip(found + len(name) + 2)
             if self.text[after:after + 1] == ":":
-                return self.line + self.text.count("\n", at, found)
+                return f"{self.path}:{self.line + self.text.count(chr(10), at, found)}"
             found = self.text.find(f'"{name}"', after, end)
-        return self.line
+        return f"{self.path}:{self.line}"
 
     def skip(self, at: int) -> int:
         """The place of the next character that is no white space."""
@@ -392,22 +393,43 @@ class WorksFile:
             raise Refused(f"{self.place(end)}: no JSON: nothing goes after the list")
 
 
-def works_of(path: str, left: Counter[str]) -> Tuple[List[Work], List[str]]:
-    """The works of a file, and a line for each thing that is wrong, with its place. What is wrong
-    is left out. Of items of one `id` the first counts."""
-    file, reader = WorksFile(path), Reader(left)
+class WorksGiven:
+    """Items that a program has, which are called by their places among them."""
+
+    def __init__(self, items: Sequence[Any]) -> None:
+        self.items = items
+
+    def values(self) -> Iterator[Tuple[int, int, Any]]:
+        """The items, each with its place."""
+        yield from ((place, place, item) for place, item in enumerate(self.items, 1))
+
+    def place(self, at: int) -> str:
+        """How an item is called."""
+        return f"item {at}"
+
+    def place_of(self, _: str, at: int, __: int) -> str:
+        """The same of a variable of it."""
+        return self.place(at)
+
+
+def works_of(items: Union[str, Sequence[Any]], left: Counter[str]) -> Tuple[List[Work], List[str]]:
+    """The works of the file of this path, or of a list of items, and a line for each thing that is
+    wrong, with its place. What is wrong is left out. Of items of one `id` the first counts."""
+    source = WorksFile(items) if isinstance(items, str) else WorksGiven(items)
+    reader = Reader(left)
     found: Dict[str, Work] = {}
     faults: List[str] = []
     try:
-        for at, end, value in file.values():
-            work = reader.work(value, file.place(at))
+        for at, end, value in source.values():
+            place = source.place(at)
+            work = reader.work(value, place)
             if work and found.setdefault(work.id, work) is not work:
                 reader.wrong[:] = [("id", f"an item of this `id` is there already: "
                                           f"{found[work.id].place}")]
             for name, why in reader.wrong:
-                line = file.line_of(name, at, end) if len(faults) < MOST_HINTS else file.line
+                where = source.place_of(name, at, end) if len(faults) < MOST_HINTS else place
                 owner = f"{work.id[:MOST_LETTERS]}: " if work else ""
-                faults.append(f"{path}:{line}: {owner}{why}")
+                faults.append(f"{where}: {owner}{why}")
     except Refused as why:
         faults.append(str(why))
     return list(found.values()), faults
