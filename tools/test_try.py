@@ -8,11 +8,11 @@ from typing import Any
 
 from csl_source import library
 from csl_source.cites import citations
-from csl_source.document import LARGE, Refused
 from csl_source.items import items as read_items
 from csl_source.page import rules
 from kit import TOP, read
 from programs import Program
+from sulleqti.document import LARGE, Refused
 from testing import ran, ran_on_full_disk
 
 STYLES = "tools/samples"
@@ -28,7 +28,6 @@ RIGHT = [
     ({"issued": {"literal": "2014?"}}, "Ode (2014). T."),
     ({"issued": {"date-parts": [[2014, 5], [2015, 6]]}}, "Ode (2014). T."),
     ({"issued": {"date-parts": [[-44]]}}, "Ode (44BC). T."),
-    ({"issued": {"literal": "in spring"}}, "Ode (n.d.). T."),
     ({"issued": {"date-parts": [[2014]], "season": 2, "circa": True}}, "Ode (2014). T."),
     ({"type": "webpage", "issued": {"date-parts": [[2014]], "season": "fall"}}, "Ode (2014, Autumn). T."),
     ({"type": "webpage", "issued": {"date-parts": [[2014, 22]]}}, "Ode (2014, Summer). T."),
@@ -67,7 +66,7 @@ WRONG = [
     ({"author": ["Ode"]}, 6,
      'b: `author`: a name has to be an object, as {"family": "Kwan", "given": "Kevin"}'),
     ({"author": [{}]}, 6, "b: `author`: a name without `family`, `given` and `literal`"),
-    ({"author": [{"fammily": "O"}]}, 6, "b: `author`: `fammily` is no part of a name (is it `family`?)"),
+    ({"author": [{"family": "O", "fammily": "O"}]}, 6, "b: `author`: `fammily` is no part of a name (is it `family`?)"),
     ({"author": [{}] * 10_001}, 6, "b: `author`: more than 10000 names"),
     ({"issued": 2014}, 7, 'b: `issued`: no date: an object goes here, as {"date-parts": [[2014, 5]]}'),
     ({"issued": {"date-parts": [["May"]]}}, 7, "b: `issued`: no date: `May` is no number"),
@@ -82,9 +81,13 @@ WRONG = [
     ({"issued": {"date-parts": 2014}}, 7,
      "b: `issued`: no date: `date-parts` is a list of lists, as [[2014, 5, 2]]"),
     ({"issued": {"date-parts": [[2014]], "season": "wet"}}, 7,
-     "b: `issued`: no date: the season `wet` is unknown"),
-    ({"issued": {"raw": "May 2014"}}, 7, "b: `issued`: no date: `May 2014`"),
-    ({"issued": {"year": 2014}}, 7, "b: `issued`: no date: `year` is no part of one"),
+     "b: `issued`: the season `wet` is unknown"),
+    ({"issued": {"raw": "May 2014"}}, 7,
+     "b: `issued`: no date: `May 2014` is in words; in numbers it is as [[2014, 5, 2]]"),
+    ({"issued": {"literal": "n.d."}}, 7,
+     "b: `issued`: no date: `n.d.` is in words; in numbers it is as [[2014, 5, 2]]"),
+    ({"issued": {"date-parts": [[2014]], "year": 1}}, 7,
+     "b: `issued`: `year` is no part of a date"),
 ]
 # Whole files, and what is told of them after the name of the file.
 FILES = [
@@ -93,7 +96,9 @@ FILES = [
     (b"\n[{]", ":2: no JSON: Expecting property name enclosed in double quotes"),
     (b'[{"id": 1, "type": "book"} {}]', ":1: no JSON: a `,` or a `]` goes here"),
     (b"7", ':1: no list of items, as [{"id": "a", "type": "book"}]'),
-    (b'{"id": "a"}', ':1: no list of items, as [{"id": "a", "type": "book"}]'),
+    (b'{"id": "a"}', ":1: a: an item needs a `type`"),
+    (b'{"title": "a"}', ':1: no list of items, as [{"id": "a", "type": "book"}]'),
+    (b'[{"id": "a", "type": "book"},\n{"id": "a"}]', ":2: a: an item of this `id` is there already: FILE:1"),
     (b"[7]", ":1: an item has to be an object"),
     (b"[NaN]", ":1: no JSON: `NaN` is no value"),
     (b"[" * 100_000, ":1: no JSON: it is nested too deep"),
@@ -111,6 +116,7 @@ OBJECTS = [
     {"config": {"items": [{}], "references": [{}]}, "items": [BOOK]},
     {"\"items\": [": "\"items\": [7]", "references": [BOOK], "items": {}},
     {"references": [7], "items": [BOOK], "a": {}},
+    BOOK,
 ]
 # A work whose texts turn the direction of writing, end the isolates of their elements, and have
 # markup, and the body of its page.
@@ -210,7 +216,7 @@ class TrialTests:
             works, faults = read_items(path, collections.Counter())
         except Refused as why:
             works, faults = [], [str(why)]
-        return [it.id for it in works], [it.removeprefix(path) for it in faults]
+        return [it.id for it in works], [it.removeprefix(path).replace(path, "FILE") for it in faults]
 
     def of_items(self, items: list[dict[str, Any]], *words: str) -> tuple[int, str, list[str]]:
         """What is printed of these items, without year suffixes, and what is told of the file."""
@@ -221,7 +227,7 @@ class TrialTests:
         return status, text.split("The first")[0], faults
 
     def test_items(self) -> None:
-        """Items, right ones and wrong ones. Beside a wrong one the right ones are printed."""
+        """Items, and what is wrong with some: it alone is left out."""
         items = [{**BOOK, **more, "id": f"i{place}"} for place, (more, _) in enumerate(RIGHT)]
         status, text, faults = self.of_items(items)
         given = dict(re.findall(r"^i(\d+)\n  .*\n  (.*)$", text, re.M))
@@ -230,11 +236,13 @@ class TrialTests:
             self.row(f"the item {more}", given.get(str(place)), wanted)
         for more, line, why in WRONG:
             item = {name: value for name, value in {**BOOK, **more}.items() if value is not None}
-            given = self.read(self.items([item, BOOK]))
-            self.row(f"the wrong item {str(more)[:99]}", given, (["b"], [f":{line}: {why}"]))
-        item = {"id": "w", "type": "a", "titel": "T"}
-        told = [":4: w: the type `a` is unknown", ":5: w: `titel`: the variable is unknown (is it `title`?)"]
-        self.row("an item with two faults", self.of_items([item, BOOK]), (1, OF_BOOK, told))
+            given = self.read(self.items([item, {**BOOK, "id": "c"}]))
+            ids = ["c"] if "id" in more else ["b", "c"]
+            self.row(f"the wrong item {str(more)[:99]}", given, (ids, [f":{line}: {why}"]))
+        item = {**BOOK, "id": "w", "type": "a", "titel": "T"}
+        told = [":4: w: the type `a` is unknown", ":8: w: `titel`: the variable is unknown (is it `title`?)"]
+        wanted = f"w{OF_BOOK[1:]}{OF_BOOK}"
+        self.row("an item with two faults", self.of_items([item, BOOK]), (1, wanted, told))
         self.row("many wrong items", len(self.of_items([item] * 30)[2]), 21)
 
     def test_item_files(self) -> None:
@@ -366,11 +374,11 @@ class TrialTests:
         """What has no shape in an item or in a style is written by its number, and no line is forged."""
         hostile = "a\x1b[31m\u202e\nb.json:1: forged"
         shown = r"a [31m\u{202e} b.json:1: forged"
-        items = [{**BOOK, "id": hostile, "title": hostile}, {**BOOK, "id": hostile, hostile: 1},
+        items = [{**BOOK, "id": hostile, "title": hostile}, {**BOOK, "id": f"{hostile}2", hostile: 1},
                  {**BOOK, "title": "\ud800"}]
         status, text, faults = self.of_items(items)
         self.row("a hostile item", (status, text.splitlines()[0]), (1, shown))
-        self.row("a hostile variable", faults, [f":9: {shown}: `{shown}`: the variable is unknown"])
+        self.row("a hostile variable", faults, [f":9: {shown}2: `{shown}`: the variable is unknown"])
         self.row("half of a character", text.splitlines()[-1], "  Ode (2014). \ufffd.")
         self.row("no control characters", set(re.findall("[\0-\x1f\x7f-\x9f\u202e\u2028]", text)), {"\n"})
 
@@ -390,7 +398,7 @@ class TrialTests:
         self.file("hostile.json", json.dumps([{**BOOK, **dict.fromkeys(LONG_NAMES, 1)}], indent=0))
         told = [f"{path}:{line}: b: `{'x' * 60}..`: the variable is unknown"
                 for line in range(18, 28)]
-        self.row("long names", self.cheap(style, path), (1, "", told))
+        self.row("long names", self.cheap(style, path), (1, OF_BOOK, told))
         path = self.file("hostile.json", json.dumps([{**BOOK, "title": "x" * 5_000}]))
         rows = self.file("hostile.rows", f"base (citation {'title ' * 400})\n")
         told = [f"{rows}: it would write too many bytes"]
@@ -430,7 +438,7 @@ class TrialTests:
         """Without the kit, and without a program of an earlier call, there is one line."""
         top = f"{self.room}/no_kit"
         leave_out = shutil.ignore_patterns("out")
-        for it in "crates", "tools":
+        for it in "crates", "hosts", "tools":
             shutil.copytree(f"{TOP}/{it}", f"{top}/{it}", ignore=leave_out)
         shutil.copy2(f"{TOP}/crates.txt", top)
         words = [f"{top}/tools/try", f"{top}/{STYLES}/footnotes.csl"]

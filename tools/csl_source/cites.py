@@ -3,10 +3,10 @@ import dataclasses
 import json
 from typing import Any, Iterator
 
-from csl_source import library
-from csl_source.document import Refused, content_of
-from csl_source.items import MARKUP, cleaned, named, on_one_line
 from csl_source.notation import attribute, in_quotes
+from sulleqti.document import Refused, content_of
+from sulleqti.names import NAMES, OTHER_SPELLINGS
+from sulleqti.works import MARKUP, cleaned, named, on_one_line
 
 MOST_BYTES = 32_000_000
 # What a cite may have, and what says which part of it is printed.
@@ -53,9 +53,9 @@ def cite(value: Any, mode: str) -> tuple[str, str]:
     words += [f" purpose={purpose}"] if purpose else []
     if value.get("locator"):
         label = value.get("label") or "page"
-        if label not in library.locators():
+        if label not in NAMES["Locator"]:
             raise Wrong(f"the label {named(str(label))} is unknown")
-        label = library.OTHER_SPELLINGS.get(label, label)
+        label = OTHER_SPELLINGS.get(label, label)
         words.append(f" (locator {label} {in_quotes(cleaned(str(value['locator'])))})")
     return cleaned(str(value["id"])), "".join(words)
 

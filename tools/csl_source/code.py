@@ -132,17 +132,18 @@ class Converted:
 class Call:
     """A call of a function, and what stands right after it."""
 
-    def __init__(self, head: str, *arguments: Expression, tail: str = "") -> None:
-        self.head, self.arguments, self.tail = head, arguments, tail
+    def __init__(self, head: str, *arguments: Expression, tail: str = "", ends: str = "()") -> None:
+        self.head, self.arguments = head, arguments
+        self.begin, self.end = head + ends[0], ends[1] + tail
 
     def flat(self) -> str | None:
         """The call on one line, or `None`."""
         text = joined(self.arguments, ARGUMENTS)
-        return None if text is None else f"{self.head}({text}){self.tail}"
+        return None if text is None else f"{self.begin}{text}{self.end}"
 
     def lines(self, before: str, after: str, indent: int) -> list[str]:
         """The lines of the call. An only argument of several lines begins on the first."""
-        space, begin, end = " " * indent, f"{before}{self.head}(", f"){self.tail}{after}"
+        space, begin, end = " " * indent, before + self.begin, self.end + after
         if len(self.arguments) == 1 and isinstance(self.arguments[0], (Call, Struct, Vector)):
             return lines_of(begin, self.arguments[0], end, indent)
         return [f"{space}{begin}", *many(self.arguments, indent), f"{space}{end}"]
@@ -200,23 +201,11 @@ class Vector:
         return [f"{space}{before}vec![in alloc;", *many(self.items, indent), f"{space}]?{after}"]
 
 
-class Row:
+class Row(Call):
     """A tuple, or a table of tuples."""
 
     def __init__(self, items: Sequence[Expression], ends: str = "()") -> None:
-        self.items, self.ends = items, ends
-
-    def flat(self) -> str | None:
-        """The tuple on one line, or `None`."""
-        text = joined(self.items, ARGUMENTS)
-        return None if text is None else f"{self.ends[0]}{text}{self.ends[1]}"
-
-    def lines(self, before: str, after: str, indent: int) -> list[str]:
-        """The lines of the tuple. An only item begins on the first."""
-        space, begin, end = " " * indent, before + self.ends[0], self.ends[1] + after
-        if len(self.items) == 1:
-            return lines_of(begin, self.items[0], end, indent)
-        return [f"{space}{begin}", *many(self.items, indent), f"{space}{end}"]
+        super().__init__("", *items, ends=ends)
 
 
 def over(name: str, fields: Fields, base: Base) -> Struct | Base:

@@ -1,48 +1,82 @@
-"""The elements of a layout or a macro, as the steps that build their values."""
-import collections
-from typing import Iterable, NamedTuple, Sequence
+"""The nodes of a layout or a macro (sulleqti.elements), as the steps that build their values."""
+from typing import Any, Sequence
 
 from csl_source import library
-from csl_source.attributes import Attributes, some
 from csl_source.code import (ONE, STEPS, Call, Converted, Expression, Fields, Local, Step, Struct,
                              Vector, comment, function, over, quoted, size, snake, unique)
-from csl_source.document import Node
+from sulleqti.attributes import FORMATTING, INHERITED, Sorts, Tree
+from sulleqti.elements import TARGETS, TESTS
+from sulleqti.names import SORTS
 
-# The library writes the affixes of a node inside of the node's formatting.
-INSIDE = "affixes outside of the formatting"
-RENDERED = ("text", "number", "label", "date", "names", "choose", "group")
 # What a part is, and the type of it that a function returns.
 RESULTS = {"element": "LayoutRenderingElement", "child": "NamesChild", "branch": "ChooseBranch",
            "nodes": "Vec<LayoutRenderingElement>"}
-DATE_FORMS = {"day": ("numeric", "numeric-leading-zeros", "ordinal"),
-              "month": ("long", "short", "numeric", "numeric-leading-zeros"),
-              "year": ("long", "short")}
-NUMBERS = ("NumberVariable", "PageVariable")
 # The letters of a function's name.
 MOST_LETTERS = 40
 
 
-def variables(*enums: str) -> dict[str, str]:
-    """The variables of these enums, by name."""
-    return {name: variant for enum in enums for name, variant in library.variants(enum).items()}
+def string(text: str) -> Call:
+    """A text of its own."""
+    return Call("String::from_str", "alloc", quoted(text), tail="?")
 
 
-def handed_down(names: Node) -> list[Node]:
-    """The children that names hand down to names without any in their substitutes: the first of
-    each sort, since no other counts."""
-    first: dict[str, Node] = {}
-    for child in names:
-        if child.name != "substitute":
-            first.setdefault(child.name, child)
-    return list(first.values())
+def some(value: Expression | None) -> Expression | None:
+    """A value that a field may lack, or `None` if the field is not set."""
+    return value if value is None or value == "None" else Call("Some", value)
 
 
-class Scope(NamedTuple):
-    """Where an element is: the children that names around it hand down, and whether it is right in
-    a substitute."""
+def any_variable(name: str) -> str:
+    """A variable, as a value of any sort of them."""
+    return f"{library.variants(SORTS[name])[name]}.into()"
 
-    around: Sequence[Node] = ()
-    is_direct: bool = False
+
+def value_of(sort: str, value: Any) -> Expression:
+    """The expression of a value of JSON of this sort."""
+    if isinstance(value, (bool, int)):
+        return str(value).lower()
+    return string(value) if sort == "text" else library.variants(sort)[value]
+
+
+def given(tree: Tree, name: str, sort: str, default: str | None = None) -> Expression | None:
+    """The value of a member, or `None` if it is absent or the default."""
+    return None if tree.get(name, default) == default else value_of(sort, tree[name])
+
+
+def fields_of(tree: Tree, sorts: Sorts) -> Fields:
+    """The fields that may lack a value of those of these members that are there."""
+    return [(name.replace("-", "_"), some(value_of(sort, tree[name])))
+            for name, sort in sorts.items() if name in tree]
+
+
+def flag(tree: Tree, name: str) -> str | None:
+    """The value of a member that is true, or `None`."""
+    return "true" if tree.get(name) else None
+
+
+def defaults_but(name: str, fields: Fields) -> Struct | None:
+    """A struct with these fields, and all others as by default, or `None` if no field is set."""
+    return Struct(name, fields, f"{name}::default()") if fields else None
+
+
+def formatting(tree: Tree) -> Expression | None:
+    """The formatting, or `None`."""
+    if [tree.get(name) for name in FORMATTING] == ["italic", None, None, None, None]:
+        return "Formatting::italic()"
+    return defaults_but("Formatting", fields_of(tree, FORMATTING))
+
+
+def affixes(tree: Tree) -> Call | None:
+    """The affixes, or `None`."""
+    texts = [quoted(tree[name]) for name in ("prefix", "suffix") if name in tree]
+    name = "around" if len(texts) == 2 else "before" if "prefix" in tree else "after"
+    return Call(f"Affixes::{name}", "alloc", *texts, tail="?") if texts else None
+
+
+def name_options(tree: Tree) -> Struct | None:
+    """The options of names, or `None`."""
+    names = {"name_form": "form", "name_delimiter": "delimiter"}
+    fields = [(names.get(name, name), value) for name, value in fields_of(tree, INHERITED)]
+    return defaults_but("InheritableNameOptions", fields)
 
 
 class Part:
@@ -62,12 +96,11 @@ class Part:
 
 
 class Elements:
-    """Writes elements. What a function has no room for becomes a function of its own, in
-    `functions`. `left` counts what the library leaves out, and `taken` has the names of functions
-    (`code.unique`)."""
+    """Writes nodes. What a function has no room for becomes a function of its own, in `functions`.
+    `taken` has the names of functions (`code.unique`)."""
 
-    def __init__(self, left: collections.Counter[str], taken: dict[str, int], indent: int) -> None:
-        self.left, self.taken, self.indent = left, taken, indent
+    def __init__(self, taken: dict[str, int], indent: int) -> None:
+        self.taken, self.indent = taken, indent
         self.functions: list[list[str]] = []
         self.place, self.owner = "", ""
 
@@ -104,337 +137,190 @@ class Elements:
                  for step in part.steps]
         return steps, [calls.get(place, item) for place, item in enumerate(items)]
 
-    def listed(self, nodes: Iterable[Node], scope: Scope = Scope(),
-               base: str = "nodes") -> tuple[list[Step], Expression]:
-        """The steps that build a list of elements, and the list."""
-        parts = [part for node in nodes if (part := self.element(node, scope))]
-        if not parts:
+    def listed(self, nodes: Sequence[Tree], base: str = "nodes") -> tuple[list[Step], Expression]:
+        """The steps that build a list of nodes, and the list."""
+        if not nodes:
             return [], "Vec::new(alloc)"
-        steps, items = self.gathered(parts)
+        steps, items = self.gathered([self.part(node) for node in nodes])
         local = Local(base)
         return [*steps, (local, Vector(items))], local
 
-    def element(self, node: Node, scope: Scope) -> Part | None:
-        """An element, or `None` if the library leaves it out."""
-        if node.name not in RENDERED:
-            node.refuse(f"`{node.name}` is no element that prints")
-        return getattr(self, node.name)(node, scope)
+    def part(self, node: Tree, before: str = "") -> Part:
+        """A node, or, with `names_` before its name, a child of names."""
+        (name, tree), = node.items()
+        return getattr(self, before + name.replace("-", "_"))(tree)
 
-    def dressed(self, given: Attributes, name: str, base: Expression, fields: Fields,
-                steps: Sequence[Step], word: str, is_variable: bool = True) -> Part:
+    def dressed(self, tree: Tree, made: Expression, fields: Fields, steps: Sequence[Step],
+                word: str) -> Part:
         """A node with its formatting, affixes and display, after these steps, in a variable that is
-        named after a word. In CSL its affixes are outside of its formatting, so they go to a group
-        around it. (A group counts as a variable, so no group may be around a node that prints
-        none.)"""
-        is_split = given.is_split()
-        fields = [*fields, ("formatting", given.formatting())]
-        affixes, display = given.affixes(), some(given.variant("display", "Display"))
-        outer: Fields = [("affixes", affixes), ("display", display)]
-        given.leave_out("text-case")
-        if not (is_split and is_variable):
-            self.left[INSIDE] += is_split
-            return Part([*steps, (Local(word), over(name, [*fields, *outer], base))], "element")
-        inner, nodes, affixed = Local(word), Local("nodes"), Local("affixed")
-        steps = [*steps, (inner, over(name, fields, base)), (nodes, Vector([inner.into()]))]
-        group = over("Group", outer, Call("Group::new", nodes))
-        return Part([*steps, (affixed, group)], "element")
+        named after a word."""
+        name = made.head.split("::")[0]
+        fields = [*fields, ("formatting", formatting(tree)), ("affixes", affixes(tree)),
+                  *fields_of(tree, {"display": "Display"})]
+        return Part([*steps, (Local(word), over(name, fields, made))], "element")
 
     # ---- texts, numbers, labels and dates
 
-    def text(self, node: Node, _: Scope) -> Part | None:
-        """A text, or `None` if the library does not name its term."""
-        given = Attributes(node, self.left)
-        targets = [it for it in ("variable", "macro", "term", "value") if it in node.attrib]
-        if len(targets) != 1:
-            node.refuse("`text` needs one of the attributes `variable`, `macro`, `term`, `value`")
-        target, word = targets[0], given.rest[targets[0]]
-        made = getattr(self, f"text_of_{target}")(given)
-        if made is None:
-            return None
-        flags = {"quotes": given.flag("quotes"), "strip_periods": given.flag("strip-periods")}
-        fields = [(name, None if flag == "false" else flag) for name, flag in flags.items()]
-        local = snake("", "value") if target == "value" else snake(word, "text")
-        is_variable = target == "variable" and word != "year-suffix"
-        part = self.dressed(given, "Text", made, fields, [], local, is_variable)
-        given.end()
-        return part
+    def text(self, tree: Tree) -> Part:
+        """A text."""
+        target = next(it for it in TARGETS if it in tree)
+        word = snake("", "value") if target == "value" else snake(tree[target], "text")
+        fields = [("quotes", flag(tree, "quotes")), ("strip_periods", flag(tree, "strip-periods"))]
+        return self.dressed(tree, self.printed(target, tree), fields, [], word)
 
-    def text_of_variable(self, given: Attributes) -> Call:
-        """A text of a variable, in its short form if that is asked for."""
-        known = variables("StandardVariable", *NUMBERS)
-        variable = f"{given.needed_one_of('variable', known, 'variable')}.into()"
-        form = given.variant("form", "LongShortForm")
-        if form != "LongShortForm::Short":
-            return Call("Text::variable", variable)
-        target = Struct("TextTarget::Variable", [("var", variable), ("form", form)])
-        return Call("Text::new", target)
-
-    def text_of_macro(self, given: Attributes) -> Call:
-        """A text of a macro."""
-        return Call("Text::macro_call", "alloc", quoted(given.taken("macro")), tail="?")
-
-    def text_of_value(self, given: Attributes) -> Call:
-        """A text of its own."""
-        return Call("Text::value", "alloc", quoted(given.taken("value")), tail="?")
-
-    def text_of_term(self, given: Attributes) -> Call | None:
-        """A text of a term, or `None` if the library does not name it."""
-        name = given.taken("term")
-        form = given.variant("form", "TermForm") or "TermForm::Long"
-        plural = given.flag("plural") or "false"
-        if name not in library.terms():
-            self.left[f"the term `{name}`"] += 1
-            return None
-        term = library.terms()[name][0]
-        if (form, plural) == ("TermForm::Long", "false"):
+    def printed(self, target: str, tree: Tree) -> Call:
+        """A text without its look."""
+        if target in ("macro", "value"):
+            call = "macro_call" if target == "macro" else target
+            return Call(f"Text::{call}", "alloc", quoted(tree[target]), tail="?")
+        if target == "variable":
+            variable, form = any_variable(tree["variable"]), "LongShortForm::Short"
+            fields = [("var", variable), ("form", form)]
+            return Call("Text::variable", variable) if tree.get("form") != "short" \
+                else Call("Text::new", Struct("TextTarget::Variable", fields))
+        term = library.terms()[tree["term"]][0]
+        form, plural = given(tree, "form", "TermForm", "long"), flag(tree, "plural")
+        if form is None and plural is None:
             return Call("Text::term", term)
-        fields = [("term", term), ("form", form), ("plural", plural)]
+        fields = [("term", term), ("form", form or "TermForm::Long"), ("plural", plural or "false")]
         return Call("Text::new", Struct("TextTarget::Term", fields))
 
-    def number(self, node: Node, _: Scope) -> Part:
+    def number(self, tree: Tree) -> Part:
         """A number."""
-        given = Attributes(node, self.left)
-        word = given.needed("variable")
-        variable = given.needed_one_of("variable", variables(*NUMBERS), "variable")
-        form = given.variant("form", "NumberForm")
-        fields = [("form", None if form == "NumberForm::Numeric" else form)]
-        made = Call("Number::new", f"{variable}.into()")
-        part = self.dressed(given, "Number", made, fields, [], snake(word, "number"))
-        given.end()
-        return part
+        made = Call("Number::new", any_variable(tree["variable"]))
+        fields = [("form", given(tree, "form", "NumberForm", "numeric"))]
+        return self.dressed(tree, made, fields, [], snake(tree["variable"], "number"))
 
-    def label_fields(self, given: Attributes) -> list[tuple[str, Expression]]:
+    def label_fields(self, tree: Tree) -> Fields:
         """What a label has beside its variable."""
-        self.left[INSIDE] += given.is_split()
-        form, plural = given.variant("form", "TermForm"), given.variant("plural", "LabelPluralize")
-        fields: Fields = [
-            ("form", None if form == "TermForm::Long" else form),
-            ("plural", None if plural == "LabelPluralize::Contextual" else plural),
-            ("formatting", given.formatting()),
-            ("affixes", given.affixes()),
-            ("strip_periods", "true" if given.flag("strip-periods") == "true" else None),
-        ]
-        given.leave_out("text-case")
+        fields = [("form", given(tree, "form", "TermForm", "long")),
+                  ("plural", given(tree, "plural", "LabelPluralize", "contextual")),
+                  ("formatting", formatting(tree)), ("affixes", affixes(tree)),
+                  ("strip_periods", flag(tree, "strip-periods"))]
         return [(name, value) for name, value in fields if value is not None]
 
-    def label(self, node: Node, _: Scope) -> Part:
+    def label(self, tree: Tree) -> Part:
         """A label of a number."""
-        given = Attributes(node, self.left)
-        word = given.needed("variable")
-        variable = given.needed_one_of("variable", variables(*NUMBERS), "variable")
-        fields = self.label_fields(given)
-        given.end()
-        made: Expression = Call("Label::new", f"{variable}.into()")
+        variable, fields = any_variable(tree["variable"]), self.label_fields(tree)
+        made: Expression = Call("Label::new", variable)
         if fields == [("form", "TermForm::Short")]:
-            made = Call("Label::short", f"{variable}.into()")
+            made = Call("Label::short", variable)
         elif fields:
             inner = Struct("VariablelessLabel", fields, "VariablelessLabel::default()")
             made = Struct("Label", [("label", inner)], made)
-        return Part([(Local(f"{snake(word, 'number')}_label"), made)], "element")
+        return Part([(Local(f"{snake(tree['variable'], 'number')}_label"), made)], "element")
 
-    def date_part(self, node: Node) -> Step:
+    def date_part(self, tree: Tree) -> Step:
         """The step that builds a part of a date."""
-        given = Attributes(node, self.left)
-        name = given.needed("name")
-        part = given.needed_one_of("name", library.variants("DatePartName"))
-        known = library.variants("DateAnyForm")
-        form = given.one_of("form", {it: known[it] for it in DATE_FORMS[name]})
-        self.left[INSIDE] += given.is_split()
-        strip = "true" if given.flag("strip-periods") == "true" else None
-        fields: Fields = [("form", some(form)), ("formatting", given.formatting()),
-                          ("affixes", given.affixes()), ("strip_periods", strip)]
-        given.leave_out("text-case", "range-delimiter")
-        given.end()
-        return Local(name), over("DatePart", fields, Call("DatePart::new", part))
+        fields = [*fields_of(tree, {"form": "DateAnyForm"}), ("formatting", formatting(tree)),
+                  ("affixes", affixes(tree)), ("strip_periods", flag(tree, "strip-periods"))]
+        made = Call("DatePart::new", library.variants("DatePartName")[tree["name"]])
+        return Local(tree["name"]), over("DatePart", fields, made)
 
-    def date_parts(self, node: Node) -> tuple[list[Step], Expression]:
+    def date_parts(self, tree: Tree) -> tuple[list[Step], Expression]:
         """The steps that build the list of a date's parts, and the list."""
-        for child in node:
-            if child.name != "date-part":
-                child.refuse(f"`{child.name}` has no place in `date`")
-        if not len(node):
+        if "date-part" not in tree:
             return [], "Vec::new(alloc)"
-        steps = [self.date_part(child) for child in node]
+        steps = [self.date_part(it) for it in tree["date-part"]]
         parts = Local("parts")
         return [*steps, (parts, Vector([local for local, _ in steps]))], parts
 
-    def date(self, node: Node, _: Scope) -> Part:
+    def date(self, tree: Tree) -> Part:
         """A date: of its own parts, or localized."""
-        given = Attributes(node, self.left)
-        word = given.needed("variable")
-        variable = given.needed_one_of("variable", variables("DateVariable"), "date")
-        form = given.variant("form", "DateForm")
-        if form is None and not len(node):
-            node.refuse("`date` needs a form or parts")
-        steps, parts = self.date_parts(node)
-        shown = some(given.variant("date-parts", "DateParts"))
-        fields = [("form", some(form)), ("parts", shown), ("delimiter", given.string("delimiter"))]
-        made = Call("Date::new", variable, parts)
-        part = self.dressed(given, "Date", made, fields, steps, snake(word, "date"))
-        given.end(("date-part",))
-        return part
+        steps, parts = self.date_parts(tree)
+        names = {"form": "form", "date_parts": "parts", "delimiter": "delimiter"}
+        sorts = {"form": "DateForm", "date-parts": "DateParts", "delimiter": "text"}
+        fields = [(names[name], value) for name, value in fields_of(tree, sorts)]
+        made = Call("Date::new", library.variants("DateVariable")[tree["variable"]], parts)
+        return self.dressed(tree, made, fields, steps, snake(tree["variable"], "date"))
 
     # ---- names
 
-    def name(self, node: Node) -> Part:
+    def names_name(self, tree: Tree) -> Part:
         """How names are written: the child `name` of `names`."""
-        given = Attributes(node, self.left)
-        steps: list[Step] = []
-        for child in node:
-            if child.name != "name-part":
-                child.refuse(f"`{child.name}` has no place in `name`")
-            step = self.name_part(child)
-            if any(local.base == step[0].base for local, _ in steps):
-                child.refuse(f"the part `{step[0].base}` of `name` is there twice")
-            steps.append(step)
-        parts = [local for local, _ in steps]
-        self.left["affixes of `name`"] += given.affixes() is not None
-        options = given.name_options(form="form", delimiter="delimiter")
-        fields: Fields = [("options", options), ("formatting", given.formatting()),
-                          ("parts", Vector(parts) if parts else None)]
-        given.end(("name-part",))
+        steps = [self.name_part(it) for it in tree.get("name-part", ())]
+        own = {f"name-{it}": tree[it] for it in ("form", "delimiter") if it in tree}
+        fields: Fields = [("options", name_options({**tree, **own})),
+                          ("formatting", formatting(tree)),
+                          ("parts", Vector([local for local, _ in steps]) if steps else None)]
         return Part([*steps, (Local("name"), over("Name", fields, "Name::new(alloc)"))], "child")
 
-    def name_part(self, node: Node) -> Step:
+    def name_part(self, tree: Tree) -> Step:
         """The step that builds the look of a part of names."""
-        given = Attributes(node, self.left)
-        word = given.needed("name")
-        name = given.needed_one_of("name", library.variants("NamePartName"))
-        self.left[INSIDE] += given.is_split()
-        formatting = given.formatting() or "Formatting::default()"
-        affixes = given.affixes() or "Affixes::default()"
-        given.leave_out("text-case")
-        given.end()
-        fields = [("name", name), ("formatting", formatting), ("affixes", affixes)]
-        return Local(word), Struct("NamePart", fields)
+        fields = [("name", library.variants("NamePartName")[tree["name"]]),
+                  ("formatting", formatting(tree) or "Formatting::default()"),
+                  ("affixes", affixes(tree) or "Affixes::default()")]
+        return Local(tree["name"]), Struct("NamePart", fields)
 
-    def et_al(self, node: Node) -> Part:
+    def names_et_al(self, tree: Tree) -> Part:
         """The child `et-al` of `names`."""
-        given = Attributes(node, self.left)
-        known = {"et-al": None, "and others": "OtherTerm::AndOthers"}
-        fields = [("term", given.one_of("term", known)), ("formatting", given.formatting())]
-        given.end()
+        term = "OtherTerm::AndOthers" if tree.get("term") == "and others" else None
+        fields = [("term", term), ("formatting", formatting(tree))]
         return Part([(Local("et_al"), over("EtAl", fields, "EtAl::default()"))], "child")
 
-    def names_label(self, node: Node) -> Part:
+    def names_label(self, tree: Tree) -> Part:
         """The child `label` of `names`."""
-        given = Attributes(node, self.left)
-        fields = self.label_fields(given)
-        given.end()
-        made = over("VariablelessLabel", fields, "VariablelessLabel::default()")
+        made = over("VariablelessLabel", self.label_fields(tree), "VariablelessLabel::default()")
         return Part([(Local("label"), made)], "child")
 
-    def substitute(self, node: Node, around: Sequence[Node]) -> Part:
-        """The child `substitute` of `names`, to which they hand these children down."""
-        given = Attributes(node, self.left)
-        given.end(RENDERED)
-        steps, nodes = self.listed(node, Scope(around, is_direct=True), "instead")
-        made = Struct("Substitute", [("children", nodes)])
+    def names_substitute(self, nodes: Sequence[Tree]) -> Part:
+        """The child `substitute` of `names`."""
+        steps, items = self.listed(nodes, "instead")
+        made = Struct("Substitute", [("children", items)])
         return Part([*steps, (Local("substitute"), made)], "child")
 
-    def names_children(self, node: Node, scope: Scope) -> list[Part]:
-        """The children of names. Names without any take those around them. The library does so
-        itself only directly in a substitute."""
-        parts, left, inside = [], self.left, handed_down(node)
-        if not len(node):
-            # (what is left out of them is counted already)
-            self.left = collections.Counter()
-        for child in list(node) or ([] if scope.is_direct else scope.around):
-            if child.name not in ("name", "et-al", "label", "substitute"):
-                child.refuse(f"`{child.name}` has no place in `names`")
-            if child.name == "substitute":
-                parts.append(self.substitute(child, inside))
-            else:
-                write = {"name": self.name, "et-al": self.et_al, "label": self.names_label}
-                parts.append(write[child.name](child))
-        self.left = left
-        return parts
-
-    def names(self, node: Node, scope: Scope) -> Part:
+    def names(self, tree: Tree) -> Part:
         """Names."""
-        given = Attributes(node, self.left)
-        given.needed("variable")
-        known = variables("NameVariable")
-        words = given.words_of("variable", known, "variable of names")
-        is_direct = scope.is_direct and not given.is_split()
-        steps, items = self.gathered(self.names_children(node, Scope(scope.around, is_direct)))
+        steps, items = self.gathered([self.part(it, "names_") for it in tree["children"]])
         children, persons = Local("children"), Local("persons")
         if items:
             steps.append((children, Vector(items)))
         fields = [("children", children if items else None),
-                  ("delimiter", given.string("delimiter"))]
-        steps.append((persons, Vector([known[word] for word in words])))
+                  *fields_of(tree, {"delimiter": "text"})]
+        known = library.variants("NameVariable")
+        steps.append((persons, Vector([known[it] for it in tree["variable"]])))
         made = Call("Names::new", "alloc", persons)
-        part = self.dressed(given, "Names", made, fields, steps, snake(words[0], "names"))
-        given.end(("name", "et-al", "label", "substitute"))
-        return part
+        return self.dressed(tree, made, fields, steps, snake(tree["variable"][0], "names"))
 
     # ---- groups and choices
 
-    def group(self, node: Node, scope: Scope) -> Part:
+    def group(self, tree: Tree) -> Part:
         """A group."""
-        given = Attributes(node, self.left)
-        delimiter = given.text("delimiter")
-        steps, nodes = self.listed(node, Scope(scope.around))
+        steps, nodes = self.listed(tree["children"])
         made = Call("Group::new", nodes)
-        if delimiter:
-            made = Call("Group::delimited", "alloc", quoted(delimiter), nodes, tail="?")
-        part = self.dressed(given, "Group", made, [], steps, "group")
-        given.end(RENDERED)
-        return part
+        if tree.get("delimiter"):
+            made = Call("Group::delimited", "alloc", quoted(tree["delimiter"]), nodes, tail="?")
+        return self.dressed(tree, made, [], steps, "group")
 
-    def tests(self, node: Node, given: Attributes) -> list[tuple[str, Expression | None]]:
-        """The tests of a branch, of which it needs one."""
-        known = variables(*library.VARIABLES)
-        variable = {name: f"{variant}.into()" for name, variant in known.items()}
-        tables = {
-            "is-numeric": (variable, "variable"),
-            "is-uncertain-date": (variables("DateVariable"), "date"),
-            "locator": (library.locators(), "locator"),
-            "position": (library.variants("TestPosition"), "position"),
-            "type": (library.kinds(), "kind"),
-            "variable": (variable, "variable"),
-        }
-        fields = [("disambiguate", some(given.one_of("disambiguate", {"true": "true"})))]
-        for name, (values, what) in tables.items():
-            field = "type_" if name == "type" else name.replace("-", "_")
-            fields.append((field, some(given.list_of(name, values, what))))
-        if all(test is None for _, test in fields):
-            node.refuse(f"`{node.name}` needs a test")
-        return fields
+    def test(self, name: str, value: Any) -> Expression:
+        """The value of a test of a branch."""
+        if value is True:
+            return "true"
+        sort = TESTS[name].rstrip("*")
+        return Vector([any_variable(it) if sort == "Variable" else library.variants(sort)[it]
+                       for it in value])
 
-    def branch(self, node: Node, around: Sequence[Node]) -> Part:
+    def branch(self, tree: Tree) -> Part:
         """A branch of a choice that has tests."""
-        given = Attributes(node, self.left)
-        tests = self.tests(node, given)
-        match = given.variant("match", "ChooseMatch")
-        given.end(RENDERED)
-        steps, nodes = self.listed(node, Scope(around))
-        fields = [*tests, ("match_", None if match == "ChooseMatch::All" else match)]
+        tests = [({"type": "type_"}.get(name, name.replace("-", "_")),
+                  some(self.test(name, tree[name]))) for name in TESTS if name in tree]
+        steps, nodes = self.listed(tree["children"])
+        fields = [*tests, ("match_", given(tree, "match", "ChooseMatch", "all"))]
         made = over("ChooseBranch", fields, Call("ChooseBranch::new", nodes))
         return Part([*steps, (Local("branch"), made)], "branch")
 
-    def otherwise(self, node: Node, around: Sequence[Node]) -> Part:
+    def otherwise(self, nodes: Sequence[Tree]) -> Part:
         """The branch `else` of a choice."""
-        given = Attributes(node, self.left)
-        given.end(RENDERED)
-        steps, nodes = self.listed(node, Scope(around), "otherwise")
-        return Part(steps or [(Local("otherwise"), nodes)], "nodes")
+        steps, items = self.listed(nodes, "otherwise")
+        return Part(steps or [(Local("otherwise"), items)], "nodes")
 
-    def choose(self, node: Node, scope: Scope) -> Part:
+    def choose(self, tree: Tree) -> Part:
         """A choice."""
-        given = Attributes(node, self.left)
-        given.end(("if", "else-if", "else"))
-        order = [child.name for child in node]
-        has_else = order[-1:] == ["else"]
-        middle = order[1:-1] if has_else else order[1:]
-        if order[:1] != ["if"] or set(middle) - {"else-if"}:
-            node.refuse("`choose` needs an `if`, then any `else-if`, then at most one `else`")
-        branches = [self.otherwise(child, scope.around) if child.name == "else"
-                    else self.branch(child, scope.around) for child in node]
-        steps, items = self.gathered(branches)
-        rest = items[1:-1] if has_else else items[1:]
-        fields = [("else_if", Vector(rest) if rest else None),
-                  ("otherwise", Call("Some", items[-1]) if has_else else None)]
+        branches = [self.branch(it) for it in [tree["if"], *tree.get("else-if", ())]]
+        rest = [self.otherwise(tree["else"])] if "else" in tree else []
+        steps, items = self.gathered([*branches, *rest])
+        others = items[1:len(branches)]
+        fields = [("else_if", Vector(others) if others else None),
+                  ("otherwise", Call("Some", items[-1]) if rest else None)]
         made = over("Choose", fields, Call("Choose::new", "alloc", items[0]))
         return Part([*steps, (Local("choice"), made)], "element")

@@ -2,14 +2,21 @@
 or option is known at once."""
 import functools
 import glob
+import json
 import os
 import re
 
 from kit import TOP, read
+from sulleqti.names import OTHER_SPELLINGS
 
-# Spellings beside those of CSL's locales: of Appendix IV of CSL 1.0.2, and of CSL 1.0.1.
-OTHER_SPELLINGS = {"editor-translator": "editortranslator", "sub verbo": "sub-verbo"}
 VARIABLES = ("StandardVariable", "NumberVariable", "PageVariable", "DateVariable", "NameVariable")
+# The enums whose names the package has (hosts/python/sulleqti/names.json).
+NAMED = (*VARIABLES, "Kind", "OtherTerm", "Locator", "FontStyle", "FontVariant", "FontWeight",
+         "TextDecoration", "VerticalAlign", "Display", "LongShortForm", "TermForm", "NumberForm",
+         "LabelPluralize", "DateForm", "DateParts", "DatePartName", "NameForm", "NameAnd",
+         "DelimiterBehavior", "NameAsSortOrder", "NamePartName", "ChooseMatch", "TestPosition",
+         "OrdinalMatch", "GrammarGender", "PageRangeFormat", "DemoteNonDroppingParticle",
+         "Collapse", "GivenNameRule", "SecondFieldAlign", "SubstituteRule")
 
 
 @functools.cache
@@ -75,12 +82,6 @@ def variants(enum: str) -> dict[str, str]:
 
 
 @functools.cache
-def kinds() -> dict[str, str]:
-    """The kinds of entries, by name."""
-    return variants("Kind")
-
-
-@functools.cache
 def locators() -> dict[str, str]:
     """The kinds of locators that CSL names."""
     named = variants("Locator")
@@ -114,3 +115,12 @@ def languages() -> dict[str, tuple[str, tuple[str, str]]]:
         found[name[1]] = os.path.basename(path).removesuffix(".rt"), (quotes[1], days[1])
     # (English is what a style takes whose language is none of these)
     return {"en-US": found["en-US"]} | found
+
+
+def names() -> str:
+    """The text of names.json: all names that a style or a work may use, by their sorts."""
+    found = {enum: list(variants(enum)) for enum in NAMED} | {"Language": list(languages())}
+    found["Locator"].remove("custom")
+    lines = [f'"{sort}": {json.dumps([it for it in known if not it.startswith("chicago")])}'
+             for sort, known in found.items()]
+    return "{\n" + ",\n".join(lines) + "\n}\n"

@@ -1,75 +1,46 @@
 """The options of a style for the citations and the bibliography of a document, as values of
 `csl_list`: the functions of a module that return its `ListStyle`."""
-from csl_source import library
-from csl_source.attributes import Attributes, some, string
-from csl_source.code import Call, Expression, Local, Step, Struct, Vector, comment, function
-from csl_source.document import Node
+from csl_source.code import Call, Expression, Fields, Local, Step, Struct, Vector, comment, function
+from csl_source.elements import any_variable, given, some, string
+from sulleqti.attributes import Tree
+from sulleqti.styles import LISTED, TEXTS
 
-# The options, by the attributes of a citation and of a bibliography.
-OPTIONS = {
-    "citation": ("collapse", "cite-group-delimiter", "year-suffix-delimiter",
-                 "after-collapse-delimiter", "near-note-distance", "disambiguate-add-names",
-                 "disambiguate-add-givenname", "givenname-disambiguation-rule",
-                 "disambiguate-add-year-suffix"),
-    "bibliography": ("hanging-indent", "second-field-align", "line-spacing", "entry-spacing",
-                     "subsequent-author-substitute", "subsequent-author-substitute-rule"),
-}
-DELIMITERS = ("cite-group-delimiter", "year-suffix-delimiter", "after-collapse-delimiter")
-# The texts around a layout, as options. The bibliography has no delimiter.
-TEXTS = {"citation": ("prefix", "suffix", "delimiter"), "bibliography": ("prefix", "suffix")}
-Fields = list[tuple[str, Expression | None]]
+# The fields of options that have other names than theirs, and those that may lack a value.
+FIELDS = {"disambiguate-add-names": "adds_names", "disambiguate-add-givenname": "adds_given_names",
+          "givenname-disambiguation-rule": "given_name_rule",
+          "disambiguate-add-year-suffix": "adds_year_suffix",
+          "subsequent-author-substitute": "author_substitute"}
+OPTIONAL = ("collapse", "cite-group-delimiter", "year-suffix-delimiter",
+            "after-collapse-delimiter", "second-field-align", "subsequent-author-substitute")
 
 
-def substitute(given: Attributes) -> Struct | None:
-    """The text for names that the work before has too, or `None`."""
-    text = given.text("subsequent-author-substitute")
-    rule = given.variant("subsequent-author-substitute-rule", "SubstituteRule")
-    if text is None:
-        return None
-    rule = rule or "SubstituteRule::CompleteAll"
-    return Struct("AuthorSubstitute", [("text", string(text)), ("rule", rule)])
+def option(tree: Tree, name: str, sort: str) -> Expression | None:
+    """The value of an option, or `None`."""
+    value = given(tree, name, sort)
+    if name == "subsequent-author-substitute" and value is not None:
+        rule = given(tree, f"{name}-rule", "SubstituteRule") or "SubstituteRule::CompleteAll"
+        value = Struct("AuthorSubstitute", [("text", value), ("rule", rule)])
+    return some(value) if name in OPTIONAL else value
 
 
-def options(name: str, given: Attributes) -> Fields:
-    """The options of a citation or of a bibliography."""
-    if name == "citation":
-        return [("collapse", some(given.variant("collapse", "Collapse"))),
-                *((name.replace("-", "_"), given.string(name)) for name in DELIMITERS),
-                ("near_note_distance", given.number("near-note-distance")),
-                ("adds_names", given.flag("disambiguate-add-names")),
-                ("adds_given_names", given.flag("disambiguate-add-givenname")),
-                ("given_name_rule", given.variant("givenname-disambiguation-rule",
-                                                  "GivenNameRule")),
-                ("adds_year_suffix", given.flag("disambiguate-add-year-suffix"))]
-    return [("hanging_indent", given.flag("hanging-indent")),
-            ("second_field_align", some(given.variant("second-field-align", "SecondFieldAlign"))),
-            ("line_spacing", given.number("line-spacing")),
-            ("entry_spacing", given.number("entry-spacing")),
-            ("author_substitute", some(substitute(given)))]
+def options(name: str, tree: Tree) -> Fields:
+    """The options of a citation or of a bibliography, with the texts around its layout."""
+    layout = tree["layout"]
+    # (the bibliography has no delimiter)
+    texts = [it for it in TEXTS if layout.get(it)]
+    keys = [("keys", Vector([key(it) for it in tree["sort"]]))] if tree["sort"] else []
+    return [*((it, string(layout[it])) for it in texts), *keys,
+            *((FIELDS.get(it, it.replace("-", "_")), option(tree, it, sort))
+              for it, sort in LISTED[name].items() if not it.endswith("substitute-rule"))]
 
 
-def key(node: Node) -> Expression:
+def key(tree: Tree) -> Expression:
     """A key of a sort."""
-    given = Attributes(node)
-    macro = given.text("macro")
-    if given.node.get("variable") is None and macro is None:
-        node.refuse("`key` needs a `variable` or a `macro`")
-    if macro is not None and node.get("variable") is None:
-        made = Call("SortKey::by_macro", string(macro))
-    else:
-        known = {name: library.variants(sort)[name] for sort in library.VARIABLES
-                 for name in library.variants(sort)}
-        variable = given.needed_one_of("variable", known, "variable")
-        made = Call("SortKey::by_variable", f"{variable}.into()")
-    if node.get("sort") != "descending":
+    made = Call("SortKey::by_macro", string(tree["macro"])) if "macro" in tree \
+        else Call("SortKey::by_variable", any_variable(tree["variable"]))
+    if tree.get("sort") != "descending":
         return made
     return Struct("SortKey", [("is_descending", "true")], made)
-
-
-def around(name: str, layout: Node) -> Fields:
-    """The texts around a layout."""
-    texts = [(text, layout.get(text)) for text in TEXTS[name]]
-    return [(name, string(text)) for name, text in texts if text]
 
 
 def made(name: str, fields: Fields, indent: int) -> list[str]:
@@ -83,19 +54,13 @@ def made(name: str, fields: Fields, indent: int) -> list[str]:
     return [*comment(about, indent), *lines]
 
 
-def list_style(root: Node, found: dict[str, Fields], indent: int) -> list[list[str]]:
-    """The function that returns the style with its options, and those that it calls. `found` has
-    the options of each layout."""
-    blocks = []
-    for name, fields in found.items():
-        keys = [key(it) for it in root.below(name, "sort", "key")]
-        sort = [("keys", Vector(keys))] if keys else []
-        blocks.append(made(name, [*around(name, root.below(name, "layout")[0]), *sort, *fields],
-                           indent))
+def list_style(tree: Tree, indent: int) -> list[list[str]]:
+    """The function that returns the style with its options, and those that it calls."""
+    blocks = [made(name, options(name, tree[name]), indent) for name in LISTED if name in tree]
     bibliography = "None"
     steps: list[Step] = [(Local("style"), "style(alloc)?"),
                          (Local("citation"), "citation_options(alloc)?")]
-    if "bibliography" in found:
+    if "bibliography" in tree:
         bibliography = Local("bibliography")
         steps.append((bibliography, "Some(bibliography_options(alloc)?)"))
     new = Call("ListStyle::new", "alloc", "style", "citation", bibliography,

@@ -2,7 +2,8 @@
 import re
 from typing import Iterable, Union
 
-CONTROL = re.compile("[\0-\x1f\x7f-\x9f\u2028\u2029]")
+from sulleqti.works import CONTROL
+
 LINE = 100
 
 

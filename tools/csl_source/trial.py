@@ -9,13 +9,12 @@ import tempfile
 from typing import Iterable
 
 from csl_source.cites import Citation
-from csl_source.document import LARGE, MOST_BYTES, Refused, content_of
 from csl_source.items import Item
 from csl_source.notation import CONTROL
 from csl_source.rows import Rows
-from csl_source.styles import plain
 from kit import Failure, tell
 from programs import CHECKED
+from sulleqti.document import LARGE, MOST_BYTES, Refused, content_of
 
 # The most bytes of a file of rows. The line `base` of a published style has at most 45,000.
 MOST_OF_ROWS = 1_000_000
@@ -35,9 +34,8 @@ class Source:
         else:
             rows = Rows(path, locale)
             self.base = joined(rows.file())
-            title = plain(rows.root.findtext("{*}info/{*}title"))
-            self.title = title or os.path.basename(path)
-            self.language, self.left = rows.language, rows.left
+            self.title = rows.style.title or os.path.basename(path)
+            self.language, self.left = rows.style.language, rows.left
         self.has_notes = "(around citation class=note" in self.base
         if len(self.base.encode()) > MOST_BYTES:
             # (names in a substitute repeat what they inherit)

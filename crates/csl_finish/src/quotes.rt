@@ -88,20 +88,46 @@ impl<'s> Quotes<'s> {
     }
 }
 
-/// Whether the mark at this index is an apostrophe: before a letter of its text.
-fn is_apostrophe(letters: &[Letter], index: usize, mark: Letter) -> bool {
+/// Whether the mark at this index is before a letter or a digit of its text.
+fn is_before_letter(letters: &[Letter], index: usize, mark: Letter) -> bool {
     match letters.get(index.saturating_add(1)) {
-        Some(after) => {
-            let is_before_letter = after.text == mark.text && after.value.is_alphanumeric();
-            is_before_letter && matches!(mark.value, '’' | '\'')
-        }
+        Some(after) => after.text == mark.text && after.value.is_alphanumeric(),
         None => false,
     }
 }
 
+/// Whether the mark at this index is after a space, a bracket, or a mark that opens a quote.
+fn is_after_opening(letters: &[Letter], index: usize, quotes: Quotes<'_>) -> bool {
+    if index == 0 {
+        return true;
+    }
+    match letters.get(index - 1) {
+        Some(before) => {
+            let is_bracket = matches!(before.value, '(' | '[');
+            is_bracket || before.value.is_whitespace() || quotes.closing(before.value).is_some()
+        }
+        None => true,
+    }
+}
+
+/// Whether a mark before a letter closes no quote: an apostrophe, or one that opens a quote, as the
+/// English mark does that is the closing one in German.
+fn closes_none(letters: &[Letter], index: usize, mark: Letter, quotes: Quotes<'_>) -> bool {
+    if matches!(mark.value, '’' | '\'') {
+        return true;
+    }
+    quotes.closing(mark.value).is_some() && is_after_opening(letters, index, quotes)
+}
+
 /// How many quotes are open after the mark at this index, if it closes one.
-fn open_after(letters: &[Letter], index: usize, mark: Letter, open: &[char]) -> Option<usize> {
-    if is_apostrophe(letters, index, mark) {
+fn open_after(
+    letters: &[Letter],
+    index: usize,
+    mark: Letter,
+    quotes: Quotes<'_>,
+    open: &[char],
+) -> Option<usize> {
+    if is_before_letter(letters, index, mark) && closes_none(letters, index, mark, quotes) {
         return None;
     }
     open.iter().rposition(|it| *it == mark.value)
@@ -150,7 +176,7 @@ pub(crate) fn nested_quotes(
     for (index, letter) in letters.iter().enumerate() {
         if letter.text.is_none() || letter.value.is_alphanumeric() {
             nested.push(*letter)?;
-        } else if let Some(rest) = open_after(letters, index, *letter, &open) {
+        } else if let Some(rest) = open_after(letters, index, *letter, quotes, &open) {
             open.truncate(rest);
             let close = quotes.inside_of(rest).close;
             push_quote(&mut nested, *letter, close, Role::Closing)?;

@@ -22,6 +22,13 @@ abbrev pub by_forms : Option NameDisambiguationProperties → Disambiguation
 by_forms None = no_disambiguation
 by_forms (Some forms) = by_names (name_properties forms)
 
+abbrev pub is_marked : Identity → Bool
+is_marked identity = is_some identity.year_suffix || identity.chooses
+
 -- a cite is told apart by a year suffix or by such branches, or else by the forms of its names
 abbrev pub told_by : Identity → Option NameDisambiguationProperties → Disambiguation
-told_by identity forms = if is_some identity.year_suffix || identity.chooses then disambiguation_of identity.year_suffix identity.chooses else by_forms forms
+told_by identity forms = if is_marked identity then disambiguation_of identity.year_suffix identity.chooses else by_forms forms
+
+-- a first cite of the work that forms of its names may tell apart
+abbrev pub first_cite_by : Identity → Option NameDisambiguationProperties → CiteState
+first_cite_by identity forms = record (first_cite (told_by identity forms)) { citation_number = citation_number identity.number }

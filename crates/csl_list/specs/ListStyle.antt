@@ -58,6 +58,10 @@ AreKeysWithin style rendered size depth keys = All (λ key. IsLayoutWithin style
 abbrev pub style_of : ListStyle → StyleParts
 style_of list = list.style
 
+-- whether works are English that do not say so themselves
+abbrev pub english_of : ListStyle → Bool
+english_of list = list.is_english
+
 abbrev pub citation_of : ListStyle → CitationOptions
 citation_of list = list.citation
 

@@ -1,7 +1,13 @@
--- The rules of given names that hold for the whole document (CSL 1.0.2,
--- givenname-disambiguation-rule): whether they expand the first name of each cite alone, and the steps
--- that they expand a name by: its initials, and the whole given name.
-use Rattle.std.specs.Prelude.{ℕ, Bool, true, false, Option, Some, None}
+-- How works are told apart (CSL 1.0.2, Disambiguation): by a first cite, or by a later one, with the
+-- number of the first note that cites the work. And the rules of given names that hold for the whole
+-- document (CSL 1.0.2, givenname-disambiguation-rule): whether they expand the first name of each cite
+-- alone, and the steps that they expand a name by: its initials, and the whole given name.
+use Rattle.std.specs.Prelude.{ℕ, Bool, true, false, Option, Some, None, option_map}
+use Rattle.csl_entry.specs.Cite.{CiteState, Disambiguation, first_cite}
+use Rattle.csl_entry.specs.Numbers.{note_number}
+use Rattle.csl_entry.specs.declared.citation.numbers.NoteNumber.{NoteNumber}
+use Rattle.csl_list.specs.declared.telling.TellingCite.{TellingCite}
+use Rattle.csl_list.specs.declared.telling.TellingCite.TheVariants.{First, Later}
 use Rattle.csl_list.specs.declared.options.GivenNameRule.{GivenNameRule}
 use Rattle.csl_list.specs.declared.options.GivenNameRule.TheVariants as rules
 
@@ -11,3 +17,17 @@ expansion_of rules.AllNamesWithInitials = Some (false, 1)
 expansion_of rules.PrimaryName = Some (true, 2)
 expansion_of rules.PrimaryNameWithInitials = Some (true, 1)
 expansion_of rules.ByCite = None
+
+abbrev pub noted : TellingCite → Option NoteNumber → TellingCite
+noted First number = First
+noted (Later None) number = Later number
+noted (Later (Some own)) number = Later (Some own)
+
+-- the state of a cite that tells a work of this number apart
+abbrev pub told_state : TellingCite → ℕ → Disambiguation → CiteState
+told_state First number told = record (first_cite told) { citation_number = number }
+told_state (Later cited) number told = record (first_cite told) {
+  citation_number = number;
+  is_first = false;
+  first_note = option_map note_number cited;
+}

@@ -1,6 +1,6 @@
 //! The works of a bibliography (CSL 1.0.2, Bibliography; Layout; second-field-align).
 
-ghost use Rattle.std.specs.Prelude.{◌≡◌, ◌<◌, ◌++◌, None, IfOk, IfErr, length, map, string_bytes};
+ghost use Rattle.std.specs.Prelude.{◌≡◌, ◌<◌, ◌++◌, false, None, IfOk, IfErr, length, map, option_copied, string_bytes};
 ghost use Rattle.std.specs.List.{All, range_with_len};
 ghost use Rattle.csl_entry.specs.Numbers.{citation_number};
 ghost use Rattle.csl_tree.specs.Tokens.{tokens};
@@ -8,16 +8,19 @@ ghost use Rattle.csl_list.specs.Errors.{IsListingError};
 ghost use Rattle.csl_list.specs.Pieces.{text_of};
 ghost use Rattle.csl_list.specs.Bibliography as spec;
 
-use crate::cite::full_content;
+use crate::cases::set_cases_of_work;
 use crate::error::ListError;
 use crate::identity::{Identity, number_at};
+use crate::line_names::{line_content, line_forms};
+use crate::list_style::ListStyle;
 use crate::options::BibliographyOptions;
 use crate::pieces::{push_text, push_tree};
 use crate::rendered::BibliographyItem;
 use crate::substitute::NamesBefore;
+use crate::told::{ToldCite, forms_at};
 use csl::Renderer;
 use csl_common::Memory;
-use csl_entry::{CitationNumber, EntryLike};
+use csl_entry::{CitationNumber, EntryLike, NameDisambiguationProperties};
 use csl_finish::finish;
 use csl_style::Style;
 use csl_tree::{ElemChildren, Formatting};
@@ -117,8 +120,9 @@ fn between_affixes(
     }
 }
 
-/// A work between the style's texts, as the bibliography has it before it is finished. A substitute
-/// stands for names that the work before has too.
+/// A work between the style's texts, as the bibliography has it before it is finished, with these
+/// forms of its names, if there are some. A substitute stands for names that the work before has
+/// too.
 fn unfinished_fields<T: EntryLike>(
     alloc: Global,
     renderer: &mut Renderer<'_>,
@@ -126,15 +130,17 @@ fn unfinished_fields<T: EntryLike>(
     formatting: Formatting,
     work: &T,
     identity: Identity,
+    forms: Option<&NameDisambiguationProperties>,
     before: &mut NamesBefore,
 ) -> Result<Fields, ListError>
-    ensures content { options.now.author_substitute ≡ None → IfOk result (λ fields.
-        spec.tokens_of_fields fields.first fields.others ≡ spec.between_affixes options.now
-        formatting (spec.content_of renderer.old.style identity (T.answers work.now))) }
+    ensures content { options.now.author_substitute ≡ None
+        → spec.has_names_beside identity (option_copied forms.entry) ≡ false
+        → IfOk result (λ fields. spec.tokens_of_fields fields.first fields.others
+        ≡ spec.between_affixes options.now formatting (spec.content_of renderer.old.style identity
+        (option_copied forms.entry) (T.answers work.now))) }
     ensures err { IfErr result IsListingError }
 {
-    let props = identity.first_cite();
-    let mut content = full_content(alloc, renderer, work, &props)?;
+    let mut content = line_content(alloc, renderer, work, identity, forms)?;
     if let Some(substitute) = &options.author_substitute {
         before.substitute(alloc, &mut content, substitute)?;
     }
@@ -142,10 +148,10 @@ fn unfinished_fields<T: EntryLike>(
     Ok(between_affixes(alloc, options, formatting, fields)?)
 }
 
-/// The fields of a work as an item, each finished by itself.
+/// The fields of a work as an item, each put into its cases and finished by itself.
 fn finished_item<T: EntryLike>(
     alloc: Global,
-    style: &Style,
+    style: &ListStyle,
     work: &T,
     index: usize,
     number: CitationNumber,
@@ -160,9 +166,11 @@ fn finished_item<T: EntryLike>(
         mut others,
     } = fields;
     if let Some(first) = &mut first {
-        finish(alloc, style, first)?;
+        set_cases_of_work(alloc, first, work, style.is_english())?;
+        finish(alloc, style.style(), first)?;
     }
-    finish(alloc, style, &mut others)?;
+    set_cases_of_work(alloc, &mut others, work, style.is_english())?;
+    finish(alloc, style.style(), &mut others)?;
     let key = String::from_str(alloc, work.key().as_ref())?;
     Ok(BibliographyItem {
         work: index,
@@ -173,15 +181,17 @@ fn finished_item<T: EntryLike>(
     })
 }
 
-/// The works of a bibliography, in this order. Their numbers are their places.
+/// The works of a bibliography, in this order. Their numbers are their places. Each shows as many
+/// names as its cite, if names were added to this.
 pub(crate) fn items<T: EntryLike>(
     alloc: Global,
     renderer: &mut Renderer<'_>,
-    style: &Style,
+    style: &ListStyle,
     options: &BibliographyOptions,
     works: &[T],
     order: &[usize],
     identities: &[Identity],
+    told: &[ToldCite],
 ) -> Result<Vec<BibliographyItem>, ListError>
     requires works { All (λ work. work < length works.now) order.now }
     requires identities { length identities.now ≡ length works.now }
@@ -190,7 +200,7 @@ pub(crate) fn items<T: EntryLike>(
         ≡ range_with_len 0 (length order.now)) }
     ensures err { IfErr result IsListingError }
 {
-    let formatting = affix_formatting(style);
+    let formatting = affix_formatting(style.style());
     let mut before = NamesBefore::new(alloc);
     let mut items = Vec::with_capacity(alloc, order.len())?;
     for (place, index) in order.iter().enumerate() {
@@ -199,6 +209,7 @@ pub(crate) fn items<T: EntryLike>(
             number,
             ..identities[*index]
         };
+        let forms = line_forms(alloc, renderer, work, identity, forms_at(told, place))?;
         let fields = unfinished_fields(
             alloc,
             renderer,
@@ -206,6 +217,7 @@ pub(crate) fn items<T: EntryLike>(
             formatting,
             work,
             identity,
+            forms.as_ref(),
             &mut before,
         )?;
         items.push(finished_item(alloc, style, work, *index, number, fields)?)?;

@@ -9,6 +9,7 @@ ghost use Rattle.csl_list.specs.Errors.{IsListingError};
 ghost use Rattle.csl_list.specs.Citation as spec;
 ghost use Rattle.csl_list.specs.Listed.{AreWorksThere};
 
+use crate::cases::{marked_capital, set_cases};
 use crate::cite::{citation_content, cite_content};
 use crate::collapse::{
     CiteLink, CitePart, delimiter_text, grouped_order, is_grouping, joint_at, links_of,
@@ -23,7 +24,7 @@ use crate::pieces::{push_entry, push_text, push_tree};
 use crate::position::{CitesSoFar, PlacedCite, Position};
 use crate::rendered::RenderedCitation;
 use crate::request::{CitationItem, CitationRequest, CitePurpose};
-use crate::told::{ToldCite, forms_at};
+use crate::told::{ToldCite, forms_of_cite};
 use crate::told_names::put_added_names;
 use csl::Renderer;
 use csl_common::Memory;
@@ -351,7 +352,7 @@ fn positioned_cites<'a, 'd, T>(
                 locator: locator_with_marks(item, marked.get(*index)),
                 position,
                 identity,
-                forms: forms_at(told, identity.number.get() as usize),
+                forms: forms_of_cite(told, identity.number.get() as usize, position.is_first),
             })?;
         }
     }
@@ -385,6 +386,11 @@ pub(crate) fn rendered_citation<'d, T: EntryLike>(
     let formatting = Formatting::default().apply(style.style().citation().formatting);
     let mut content = unfinished_citation(alloc, renderer, options, formatting, &links, &cites)?;
     put_added_names(alloc, &mut content, identities, told)?;
+    if options.begins_with_capital {
+        content = marked_capital(alloc, content)?;
+    }
+    let first = cites.first().map(|cite| cite.work);
+    set_cases(alloc, &mut content, works, first, style.is_english())?;
     delimit_ranges(alloc, &mut content, range_delimiter(style.style()))?;
     finish(alloc, style.style(), &mut content)?;
     Ok(RenderedCitation {

@@ -19,7 +19,8 @@ use crate::listed::{ListedWorks, check_works, cited_works, first_cites, listed_w
 use crate::position::CitesSoFar;
 use crate::rendered::{RenderedBibliography, RenderedCitation, RenderedList};
 use crate::request::CitationRequest;
-use crate::told::{ToldCite, choices, told_cites};
+use crate::telling::telling_cites;
+use crate::told::{OrderedWorks, ToldCite, choices, told_cites};
 use crate::year_suffix::year_suffixes;
 use csl::Renderer;
 use csl_common::Memory;
@@ -84,21 +85,22 @@ fn identities<T: EntryLike>(
     alloc: Global,
     renderer: &mut Renderer<'_>,
     style: &ListStyle,
-    works: &[T],
-    order: &[usize],
+    list: &OrderedWorks<'_, T>,
     told: &[ToldCite],
 ) -> Result<Vec<Identity>, ListError>
-    requires { All (λ work. work < length works.now) order.now }
-    ensures ok { IfOk result (λ identities. length identities.items ≡ length works.now) }
+    requires { All (λ work. work < length list.now.works.now) list.now.order.now }
+    ensures ok { IfOk result (λ identities. length identities.items
+        ≡ length list.now.works.now) }
     ensures err { IfErr result IsListingError }
 {
+    let (order, works) = (list.order, list.works.len());
     let likenesses = likenesses(alloc, told)?;
     if style.citation().adds_year_suffix {
         let suffixes = year_suffixes(alloc, told)?;
-        return identities_by(alloc, order, &suffixes, &[], &likenesses, works.len());
+        return identities_by(alloc, order, &suffixes, &[], &likenesses, works);
     }
-    let choices = choices(alloc, renderer, works, order, told)?;
-    identities_by(alloc, order, &[], &choices, &likenesses, works.len())
+    let choices = choices(alloc, renderer, list, told)?;
+    identities_by(alloc, order, &[], &choices, &likenesses, works)
 }
 
 /// The citations in the order in which they were asked for.
@@ -143,6 +145,7 @@ fn bibliography_of<T: EntryLike>(
     style: &ListStyle,
     works: &[T],
     identities: &[Identity],
+    told: &[ToldCite],
     order: &[usize],
 ) -> Result<Option<RenderedBibliography>, ListError>
     requires works { All (λ work. work < length works.now) order.now }
@@ -157,12 +160,11 @@ fn bibliography_of<T: EntryLike>(
     let Some(options) = style.bibliography() else {
         return Ok(None);
     };
-    let own_style = style.style();
-    if own_style.bibliography().is_none() {
+    if style.style().bibliography().is_none() {
         return Ok(None);
     }
     let items = items(
-        alloc, renderer, own_style, options, works, order, identities,
+        alloc, renderer, style, options, works, order, identities, told,
     )?;
     Ok(Some(RenderedBibliography {
         hanging_indent: options.hanging_indent,
@@ -186,9 +188,10 @@ impl<'d> BibliographyDriver<'d> {
     }
 
     /// The driver with a limit: the cites, works and sort keys of a list may write so many bytes in
-    /// all. Cites that are rendered to tell works apart count too: one of each work, and of works
-    /// with equal cites one for each name that is added. [`csl::context::Context::limit`] says what
-    /// takes how many. Texts of the author around cites, and finishing, take none.
+    /// all. Cites that are rendered to tell works apart count too: one of each work, in notes two,
+    /// and of works with equal cites one for each name that is added.
+    /// [`csl::context::Context::limit`] says what takes how many. Texts of the author around cites,
+    /// and finishing, take none.
     pub fn limited(self, bytes: u64) -> BibliographyDriver<'d>
         ensures requests { spec.requests_of result ≡ spec.requests_of self.entry }
         ensures limit { spec.limit_of result ≡ bytes }
@@ -248,9 +251,15 @@ impl<'d> BibliographyDriver<'d> {
         let mut renderer = Renderer::new(style.style()).limited(self.limit);
         let requests = self.requests.as_slice();
         let order = listed_order(alloc, &mut renderer, style, works, requests, listed)?;
-        let options = style.citation();
-        let told = told_cites(alloc, &mut renderer, options, works, &order)?;
-        let identities = identities(alloc, &mut renderer, style, works, &order, &told)?;
+        let telling = telling_cites(alloc, requests, works.len())?;
+        let in_order = OrderedWorks {
+            works,
+            order: &order,
+            telling: &telling,
+            is_english: style.is_english(),
+        };
+        let told = told_cites(alloc, &mut renderer, style.citation(), &in_order)?;
+        let identities = identities(alloc, &mut renderer, style, &in_order, &told)?;
         let citations = citations_of(
             alloc,
             &mut renderer,
@@ -266,6 +275,7 @@ impl<'d> BibliographyDriver<'d> {
             style,
             works,
             &identities,
+            &told,
             &order,
         )?;
         Ok(RenderedList {

@@ -79,6 +79,13 @@ impl Identity {
         }
     }
 
+    /// Whether a year suffix or branches that test `disambiguate` tell the work apart.
+    pub fn is_marked(self) -> bool
+        ensures { result ≡ spec.is_marked self }
+    {
+        self.year_suffix.is_some() || self.chooses
+    }
+
     /// How cites of the work are told apart from those of others: by a year suffix, by branches
     /// that test `disambiguate`, or else by forms of its names, if there are some.
     pub fn told_by(
@@ -89,7 +96,7 @@ impl Identity {
         ensures { IfOk result (λ state. disambiguation_of state
             ≡ spec.told_by self (option_copied forms.entry)) }
     {
-        if self.year_suffix.is_some() || self.chooses {
+        if self.is_marked() {
             return Ok(disambiguation_of(self));
         }
         match forms {
@@ -110,6 +117,26 @@ impl Identity {
                 ..first.speculative
             },
         }
+    }
+
+    /// The same for a cite that forms of its names may tell apart.
+    pub fn first_cite_by<'d>(
+        self,
+        alloc: Global,
+        forms: Option<&NameDisambiguationProperties>,
+    ) -> Result<CiteProperties<'d>, Memory>
+        ensures { IfOk result (λ props. cite_state props
+            ≡ spec.first_cite_by self (option_copied forms.entry)) }
+    {
+        let disambiguation = self.told_by(alloc, forms)?;
+        let first = self.first_cite();
+        Ok(CiteProperties {
+            certain: first.certain,
+            speculative: SpeculativeCiteProperties {
+                disambiguation,
+                ..first.speculative
+            },
+        })
     }
 }
 

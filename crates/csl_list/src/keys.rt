@@ -14,7 +14,7 @@ use crate::request::CitationItem;
 use csl::Renderer;
 use csl_common::Memory;
 use csl_entry::{CitationNumber, EntryLike};
-use csl_finish::{KeyText, SortDirection, order_of};
+use csl_finish::{KeyText, SortDirection, order_of, without_case_marks};
 use csl_style::Scope;
 use std::alloc::Global;
 
@@ -27,8 +27,8 @@ fn direction_of(key: &KeyLayout) -> SortDirection {
     }
 }
 
-/// The texts of a work's keys. They are without a year suffix, which would turn the order of works
-/// that differ by it alone in a descending key.
+/// The texts of a work's keys, in no case. They are without a year suffix, which would turn the
+/// order of works that differ by it alone in a descending key.
 fn key_texts<T: EntryLike>(
     alloc: Global,
     renderer: &mut Renderer<'_>,
@@ -43,6 +43,7 @@ fn key_texts<T: EntryLike>(
     let mut texts = Vec::with_capacity(alloc, keys.len())?;
     for key in keys {
         let text = renderer.sort_key(alloc, work, &props, &key.layout, scope, key.sorting)?;
+        let text = without_case_marks(alloc, text.as_str())?;
         let direction = direction_of(key);
         texts.push(KeyText::of_text(alloc, text, direction)?)?;
     }

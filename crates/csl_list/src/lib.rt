@@ -1,5 +1,6 @@
 //! The citations and the bibliography of a document, by CSL 1.0.2: sorted, numbered, with positions
-//! and affixes, told apart by names, year suffixes and branches, collapsed, and finished.
+//! and affixes, told apart by names, year suffixes and branches, collapsed, in their cases, and
+//! finished.
 //!
 //! [`ListStyle::new`] joins a style with its options. A [`BibliographyDriver`] takes the citations
 //! of a document, and [`BibliographyDriver::finish`] renders them with the bibliography.
@@ -8,6 +9,7 @@
 #![tactic(auto)]
 
 mod bibliography;
+mod cases;
 mod citation;
 mod cite;
 mod collapse;
@@ -18,6 +20,7 @@ mod given_names;
 mod identity;
 mod keys;
 mod likeness;
+mod line_names;
 mod list_style;
 mod listed;
 mod locator;
@@ -28,6 +31,7 @@ mod rendered;
 mod request;
 mod style_error;
 mod substitute;
+mod telling;
 mod told;
 mod told_names;
 mod year_suffix;

@@ -1,7 +1,7 @@
 //! A style with its options for a document (CSL 1.0.2, Style Structure; Sorting).
 
 ghost use Rattle.std.specs.List.{All};
-ghost use Rattle.std.specs.Prelude.{◌≡◌, IfOk, IfErr, OnOk, IsFalse, IsTrue, length, option_copied};
+ghost use Rattle.std.specs.Prelude.{◌≡◌, true, IfOk, IfErr, OnOk, IsFalse, IsTrue, length, option_copied};
 ghost use Rattle.csl_elements.specs.View.{definitions};
 ghost use Rattle.csl_list.specs.ListStyle as spec;
 
@@ -32,6 +32,7 @@ pub struct ListStyle {
     bibliography: Option<BibliographyOptions>,
     citation_keys: Vec<KeyLayout>,
     bibliography_keys: Vec<KeyLayout>,
+    is_english: bool,
 }
 
 /// Whether a key is by a macro that the style lacks.
@@ -179,6 +180,7 @@ impl ListStyle {
         ensures style { IfOk result (λ list. spec.style_of list ≡ style) }
         ensures citation { IfOk result (λ list. spec.citation_of list ≡ citation) }
         ensures bibliography { IfOk result (λ list. spec.bibliography_of list ≡ bibliography) }
+        ensures english { IfOk result (λ list. spec.english_of list ≡ true) }
         ensures citation_keys { OnOk result (All (spec.IsKnown (definitions style.macros))
             citation.keys.items) }
         ensures bibliography_keys { OnOk result (All (spec.IsKnown (definitions style.macros))
@@ -199,7 +201,45 @@ impl ListStyle {
             bibliography,
             citation_keys,
             bibliography_keys,
+            is_english: true,
         })
+    }
+
+    /// The style for works that are English, or are not, if they do not say so themselves
+    /// ([`EntryLike::is_english`](csl_entry::EntryLike::is_english)). Titles that are not English
+    /// get no title case (CSL 1.0.2, Text-case: Non-English Items). A new style is for English.
+    pub fn with_english(self, is_english: bool) -> ListStyle
+        ensures english { spec.english_of result ≡ is_english }
+        ensures style { spec.style_of result ≡ spec.style_of self.entry }
+        ensures citation { spec.citation_of result ≡ spec.citation_of self.entry }
+        ensures bibliography { spec.bibliography_of result ≡ spec.bibliography_of self.entry }
+        ensures citation_keys { spec.citation_keys result ≡ spec.citation_keys self.entry }
+        ensures bibliography_keys { spec.bibliography_keys result
+            ≡ spec.bibliography_keys self.entry }
+    {
+        let ListStyle {
+            style,
+            citation,
+            bibliography,
+            citation_keys,
+            bibliography_keys,
+            is_english: _,
+        } = self;
+        ListStyle {
+            style,
+            citation,
+            bibliography,
+            citation_keys,
+            bibliography_keys,
+            is_english,
+        }
+    }
+
+    /// Whether works are English that do not say so themselves.
+    pub fn is_english(&self) -> bool
+        ensures { result ≡ spec.english_of self.now }
+    {
+        self.is_english
     }
 
     /// The style itself.

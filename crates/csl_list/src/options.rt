@@ -16,7 +16,9 @@ pub enum KeySource {
     Variable(Variable),
 }
 
-/// A key that works or cites are sorted by (CSL 1.0.2, Sorting).
+/// A key that works or cites are sorted by (CSL 1.0.2, Sorting). For one that limits names
+/// (`names-min`, `names-use-first`, `names-use-last`) take a macro with these limits, as
+/// `tools/style` does.
 #[derive(Drop)]
 pub struct SortKey {
     /// The source of its text.
@@ -93,6 +95,9 @@ pub struct CitationOptions {
     /// Whether works with equal first cites get year suffixes, in the order of the list
     /// (disambiguate-add-year-suffix).
     pub adds_year_suffix: bool,
+    /// Whether each citation begins with a capital. CSL does not say so, but a note begins a
+    /// sentence.
+    pub begins_with_capital: bool,
 }
 
 /// The place of the first field of a work in the bibliography (CSL 1.0.2, second-field-align).
@@ -187,6 +192,7 @@ impl CitationOptions {
         ensures collapse { IsNotShortened result }
         ensures distance { result.near_note_distance ≡ 5 }
         ensures disambiguation { HasNoDisambiguation result }
+        ensures capital { result.begins_with_capital ≡ false }
     {
         CitationOptions {
             prefix: String::new(alloc),
@@ -202,6 +208,7 @@ impl CitationOptions {
             adds_given_names: false,
             given_name_rule: GivenNameRule::ByCite,
             adds_year_suffix: false,
+            begins_with_capital: false,
         }
     }
 }

@@ -1,4 +1,4 @@
-//! First cites that are told apart by their names (CSL 1.0.2, Disambiguation:
+//! Cites that are told apart by their names (CSL 1.0.2, Disambiguation:
 //! disambiguate-add-names, disambiguate-add-givenname, givenname-disambiguation-rule).
 
 ghost use Rattle.std.specs.Prelude.{◌≡◌, ◌<◌, IfOk, IfErr, length};
@@ -6,25 +6,28 @@ ghost use Rattle.std.specs.List.{All};
 ghost use Rattle.csl_list.specs.Errors.{IsListingError};
 ghost use Rattle.csl_list.specs.Told as spec;
 
+use crate::cases::set_cases_of_work;
 use crate::equal::first_equals;
 use crate::error::ListError;
 use crate::given_names::{cited_names, steps_of_names};
-use crate::identity::{Identity, number_at};
+use crate::identity::number_at;
 use crate::options::{CitationOptions, GivenNameRule};
 use crate::substitute::whole_names;
+use crate::telling::TellingCite;
 use crate::told_names::{AddedNames, added_names};
 use csl::{Rendered, Renderer};
 use csl_common::Memory;
-use csl_entry::{
-    CiteProperties, DisambiguateState, EntryLike, NameDisambiguationProperties,
-    SpeculativeCiteProperties,
-};
+use csl_entry::{DisambiguateState, EntryLike, NameDisambiguationProperties};
 use csl_tree::BufWriteFormat;
 use std::alloc::Global;
 
-/// The first cite of a work, as far as it is told apart from others.
+/// The cite of a work, as far as it is told apart from others.
 #[derive(Drop)]
 pub(crate) struct ToldCite {
+    /// Which cite it is.
+    pub telling: TellingCite,
+    /// Whether a first cite of the work is the same.
+    pub is_first_too: bool,
     /// The cite as a plain text.
     pub text: String,
     /// The names that it begins with, as a plain text. The text is empty if it has none.
@@ -37,6 +40,18 @@ pub(crate) struct ToldCite {
     pub added: Option<AddedNames>,
 }
 
+/// The works of a list, and its order.
+#[derive(Drop)]
+pub(crate) struct OrderedWorks<'w, T> {
+    pub works: &'w [T],
+    /// The indices of the works in the order of the list.
+    pub order: &'w [usize],
+    /// Of each work the cite that tells it apart.
+    pub telling: &'w [TellingCite],
+    /// Whether works are English that do not say so themselves.
+    pub is_english: bool,
+}
+
 /// More of the names of a cite.
 #[derive(Clone, Copy)]
 enum More {
@@ -46,30 +61,28 @@ enum More {
     Given(usize, usize),
 }
 
-/// The first cite of the work at a place, in this state.
+/// The cite of the work at a place, in this state.
 fn cite_in_state<T: EntryLike>(
     alloc: Global,
     renderer: &mut Renderer<'_>,
+    list: &OrderedWorks<'_, T>,
     work: &T,
     place: usize,
+    telling: TellingCite,
     disambiguation: DisambiguateState,
 ) -> Result<ToldCite, ListError>
     ensures err { IfErr result IsListingError }
 {
-    let first = Identity::numbered(number_at(place)?).first_cite();
-    let props = CiteProperties {
-        certain: first.certain,
-        speculative: SpeculativeCiteProperties {
-            disambiguation,
-            ..first.speculative
-        },
-    };
+    let props = telling.properties(number_at(place)?, disambiguation);
     let is_named = matches!(
         props.speculative.disambiguation,
         DisambiguateState::NameDisambiguation(_)
     );
-    let Rendered { content, state } = renderer.cite(alloc, work, &props)?;
+    let Rendered { mut content, state } = renderer.cite(alloc, work, &props)?;
+    set_cases_of_work(alloc, &mut content, work, list.is_english)?;
     Ok(ToldCite {
+        telling,
+        is_first_too: true,
         text: content.to_text(alloc, BufWriteFormat::Plain)?,
         names: whole_names(alloc, &content)?,
         forms: state.first_names,
@@ -78,18 +91,21 @@ fn cite_in_state<T: EntryLike>(
     })
 }
 
-/// The first cite of the work at a place, with these forms of its names.
+/// The same cite of the work at a place, with these forms of its names.
 fn named_cite<T: EntryLike>(
     alloc: Global,
     renderer: &mut Renderer<'_>,
+    list: &OrderedWorks<'_, T>,
     work: &T,
     place: usize,
+    own: (TellingCite, bool),
     forms: NameDisambiguationProperties,
 ) -> Result<ToldCite, ListError>
     ensures err { IfErr result IsListingError }
 {
+    let (telling, is_first_too) = own;
     let state = DisambiguateState::NameDisambiguation(forms.clone(alloc)?);
-    let cite = cite_in_state(alloc, renderer, work, place, state)?;
+    let cite = cite_in_state(alloc, renderer, list, work, place, telling, state)?;
     let ToldCite {
         text,
         names,
@@ -97,6 +113,8 @@ fn named_cite<T: EntryLike>(
         ..
     } = cite;
     Ok(ToldCite {
+        telling,
+        is_first_too,
         text,
         names,
         forms: Some(forms),
@@ -105,21 +123,52 @@ fn named_cite<T: EntryLike>(
     })
 }
 
-/// The first cites of the works of a list, in its order, as the style has them.
-fn first_cites<T: EntryLike>(
+/// The cite of the work at a place, as the style has it.
+fn plain_cite<T: EntryLike>(
     alloc: Global,
     renderer: &mut Renderer<'_>,
-    works: &[T],
-    order: &[usize],
-) -> Result<Vec<ToldCite>, ListError>
-    requires { All (λ work. work < length works.now) order.now }
-    ensures len { IfOk result (λ told. length told.items ≡ length order.now) }
+    list: &OrderedWorks<'_, T>,
+    work: &T,
+    place: usize,
+    telling: TellingCite,
+) -> Result<ToldCite, ListError>
     ensures err { IfErr result IsListingError }
 {
-    let mut told = Vec::with_capacity(alloc, order.len())?;
-    for (place, work) in order.iter().enumerate() {
-        let state = DisambiguateState::None;
-        told.push(cite_in_state(alloc, renderer, &works[*work], place, state)?)?;
+    let mut cite = cite_in_state(
+        alloc,
+        renderer,
+        list,
+        work,
+        place,
+        telling,
+        DisambiguateState::None,
+    )?;
+    if let TellingCite::Later(_) = telling {
+        let (first, state) = (TellingCite::First, DisambiguateState::None);
+        let first = cite_in_state(alloc, renderer, list, work, place, first, state)?;
+        cite.is_first_too = first.text == cite.text;
+    }
+    Ok(cite)
+}
+
+/// The cites of the works of a list, in its order, as the style has them.
+fn plain_cites<T: EntryLike>(
+    alloc: Global,
+    renderer: &mut Renderer<'_>,
+    list: &OrderedWorks<'_, T>,
+) -> Result<Vec<ToldCite>, ListError>
+    requires { All (λ work. work < length list.now.works.now) list.now.order.now }
+    ensures len { IfOk result (λ told. length told.items ≡ length list.now.order.now) }
+    ensures err { IfErr result IsListingError }
+{
+    let mut told = Vec::with_capacity(alloc, list.order.len())?;
+    for (place, index) in list.order.iter().enumerate() {
+        let own = list
+            .telling
+            .get(*index)
+            .copied()
+            .unwrap_or(TellingCite::First);
+        told.push(plain_cite(alloc, renderer, list, &list.works[*index], place, own)?)?;
     }
     Ok(told)
 }
@@ -247,6 +296,7 @@ fn fuller_forms(
 fn fuller_cite<T: EntryLike>(
     alloc: Global,
     renderer: &mut Renderer<'_>,
+    list: &OrderedWorks<'_, T>,
     work: &T,
     place: usize,
     told: &ToldCite,
@@ -259,22 +309,24 @@ fn fuller_cite<T: EntryLike>(
     };
     match fuller_forms(alloc, forms, more)? {
         None => Ok(None),
-        Some(fuller) => Ok(Some(named_cite(alloc, renderer, work, place, fuller)?)),
+        Some(fuller) => {
+            let own = (told.telling, told.is_first_too);
+            Ok(Some(named_cite(alloc, renderer, list, work, place, own, fuller)?))
+        }
     }
 }
 
 /// The work at a place of a list.
-fn work_at<'w, T>(works: &'w [T], order: &[usize], place: usize) -> Option<&'w T> {
-    let work = order.get(place)?;
-    works.get(*work)
+fn work_at<'w, T>(list: &OrderedWorks<'w, T>, place: usize) -> Option<&'w T> {
+    let work = list.order.get(place)?;
+    list.works.get(*work)
 }
 
 /// The cites at these places with more of their names.
 fn fuller_cites<T: EntryLike>(
     alloc: Global,
     renderer: &mut Renderer<'_>,
-    works: &[T],
-    order: &[usize],
+    list: &OrderedWorks<'_, T>,
     told: &[ToldCite],
     places: &[usize],
     more: More,
@@ -283,8 +335,8 @@ fn fuller_cites<T: EntryLike>(
 {
     let mut fuller = Vec::with_capacity(alloc, places.len())?;
     for place in places {
-        fuller.push(match (work_at(works, order, *place), told.get(*place)) {
-            (Some(work), Some(own)) => fuller_cite(alloc, renderer, work, *place, own, more)?,
+        fuller.push(match (work_at(list, *place), told.get(*place)) {
+            (Some(work), Some(own)) => fuller_cite(alloc, renderer, list, work, *place, own, more)?,
             _ => None,
         })?;
     }
@@ -351,8 +403,7 @@ fn put(told: &mut [ToldCite], place: Option<&usize>, fuller: Option<ToldCite>) {
 fn show_more<T: EntryLike>(
     alloc: Global,
     renderer: &mut Renderer<'_>,
-    works: &[T],
-    order: &[usize],
+    list: &OrderedWorks<'_, T>,
     told: &mut Vec<ToldCite>,
     places: &[usize],
     more: More,
@@ -360,7 +411,7 @@ fn show_more<T: EntryLike>(
     ensures err { IfErr result IsListingError }
 {
     let firsts = first_equal_cites(alloc, told, places)?;
-    let fuller = fuller_cites(alloc, renderer, works, order, told, places, more)?;
+    let fuller = fuller_cites(alloc, renderer, list, told, places, more)?;
     let splits = splits(alloc, told, places, &firsts, &fuller)?;
     let mut index: usize = 0;
     for cite in fuller {
@@ -385,8 +436,7 @@ fn all_places(alloc: Global, count: usize) -> Result<Vec<usize>, Memory> {
 fn add_names<T: EntryLike>(
     alloc: Global,
     renderer: &mut Renderer<'_>,
-    works: &[T],
-    order: &[usize],
+    list: &OrderedWorks<'_, T>,
     told: &mut Vec<ToldCite>,
 ) -> Result<(), ListError>
     ensures err { IfErr result IsListingError }
@@ -396,7 +446,7 @@ fn add_names<T: EntryLike>(
     let most = most_names(told, &places);
     for name in 1..most {
         let more = More::Names(name.saturating_add(1));
-        show_more(alloc, renderer, works, order, told, &places, more)?;
+        show_more(alloc, renderer, list, told, &places, more)?;
         places = ambiguous(alloc, told, &places)?;
     }
     Ok(())
@@ -406,8 +456,7 @@ fn add_names<T: EntryLike>(
 fn add_given_names<T: EntryLike>(
     alloc: Global,
     renderer: &mut Renderer<'_>,
-    works: &[T],
-    order: &[usize],
+    list: &OrderedWorks<'_, T>,
     told: &mut Vec<ToldCite>,
 ) -> Result<(), ListError>
     ensures err { IfErr result IsListingError }
@@ -417,7 +466,7 @@ fn add_given_names<T: EntryLike>(
     for name in 0..most_names(told, &places) {
         for steps in 1..3 {
             let more = More::Given(name, steps);
-            show_more(alloc, renderer, works, order, told, &places, more)?;
+            show_more(alloc, renderer, list, told, &places, more)?;
             places = ambiguous(alloc, told, &places)?;
         }
     }
@@ -454,16 +503,15 @@ fn expand_at(told: &mut [ToldCite], place: usize, name: usize, steps: usize) -> 
 /// Expands the names that are those of several persons of the document, by at most so many steps.
 fn expand_names<T: EntryLike>(
     alloc: Global,
-    works: &[T],
-    order: &[usize],
+    list: &OrderedWorks<'_, T>,
     told: &mut Vec<ToldCite>,
     is_primary: bool,
     most: usize,
 ) -> Result<(), ListError>
-    requires order { All (λ work. work < length works.now) order.now }
+    requires order { All (λ work. work < length list.now.works.now) list.now.order.now }
     ensures err { IfErr result IsListingError }
 {
-    let names = cited_names(alloc, works, order, told, is_primary)?;
+    let names = cited_names(alloc, list.works, list.order, told, is_primary)?;
     let steps = steps_of_names(alloc, &names)?;
     for (name, steps) in names.iter().zip(&steps) {
         let _has_changed = expand_at(told, name.place, name.name, most.min(*steps));
@@ -475,6 +523,7 @@ fn expand_names<T: EntryLike>(
 fn rendered_anew<T: EntryLike>(
     alloc: Global,
     renderer: &mut Renderer<'_>,
+    list: &OrderedWorks<'_, T>,
     work: &T,
     place: usize,
     cite: ToldCite,
@@ -485,6 +534,8 @@ fn rendered_anew<T: EntryLike>(
         return Ok(cite);
     }
     let ToldCite {
+        telling,
+        is_first_too,
         text,
         names,
         forms,
@@ -492,8 +543,13 @@ fn rendered_anew<T: EntryLike>(
         added,
     } = cite;
     match forms {
-        Some(forms) => named_cite(alloc, renderer, work, place, forms),
+        Some(forms) => {
+            let own = (telling, is_first_too);
+            named_cite(alloc, renderer, list, work, place, own, forms)
+        }
         None => Ok(ToldCite {
+            telling,
+            is_first_too,
             text,
             names,
             forms: None,
@@ -507,8 +563,7 @@ fn rendered_anew<T: EntryLike>(
 fn with_expanded<T: EntryLike>(
     alloc: Global,
     renderer: &mut Renderer<'_>,
-    works: &[T],
-    order: &[usize],
+    list: &OrderedWorks<'_, T>,
     told: Vec<ToldCite>,
 ) -> Result<Vec<ToldCite>, ListError>
     ensures err { IfErr result IsListingError }
@@ -516,37 +571,36 @@ fn with_expanded<T: EntryLike>(
     let mut anew = Vec::with_capacity(alloc, told.len())?;
     for cite in told {
         let place = anew.len();
-        anew.push(match work_at(works, order, place) {
-            Some(work) => rendered_anew(alloc, renderer, work, place, cite)?,
+        anew.push(match work_at(list, place) {
+            Some(work) => rendered_anew(alloc, renderer, list, work, place, cite)?,
             None => cite,
         })?;
     }
     Ok(anew)
 }
 
-/// The first cites of the works of a list, in its order, told apart by their names as the options
-/// have it: by names that the whole document needs, by more names, and by given names.
+/// The cites of the works of a list, in its order, told apart by their names as the options have
+/// it: by names that the whole document needs, by more names, and by given names.
 pub(crate) fn told_cites<T: EntryLike>(
     alloc: Global,
     renderer: &mut Renderer<'_>,
     options: &CitationOptions,
-    works: &[T],
-    order: &[usize],
+    list: &OrderedWorks<'_, T>,
 ) -> Result<Vec<ToldCite>, ListError>
-    requires order { All (λ work. work < length works.now) order.now }
+    requires order { All (λ work. work < length list.now.works.now) list.now.order.now }
     ensures err { IfErr result IsListingError }
 {
-    let mut told = first_cites(alloc, renderer, works, order)?;
+    let mut told = plain_cites(alloc, renderer, list)?;
     let expansion = expansion_of(options.given_name_rule);
     if let (true, Some((is_primary, most))) = (options.adds_given_names, expansion) {
-        expand_names(alloc, works, order, &mut told, is_primary, most)?;
-        told = with_expanded(alloc, renderer, works, order, told)?;
+        expand_names(alloc, list, &mut told, is_primary, most)?;
+        told = with_expanded(alloc, renderer, list, told)?;
     }
     if options.adds_names {
-        add_names(alloc, renderer, works, order, &mut told)?;
+        add_names(alloc, renderer, list, &mut told)?;
     }
     if options.adds_given_names && expansion.is_none() {
-        add_given_names(alloc, renderer, works, order, &mut told)?;
+        add_given_names(alloc, renderer, list, &mut told)?;
     }
     Ok(told)
 }
@@ -555,20 +609,20 @@ pub(crate) fn told_cites<T: EntryLike>(
 fn chosen_cites<T: EntryLike>(
     alloc: Global,
     renderer: &mut Renderer<'_>,
-    works: &[T],
-    order: &[usize],
+    list: &OrderedWorks<'_, T>,
+    told: &[ToldCite],
     places: &[usize],
 ) -> Result<Vec<Option<ToldCite>>, ListError>
     ensures err { IfErr result IsListingError }
 {
     let mut chosen = Vec::with_capacity(alloc, places.len())?;
     for place in places {
-        chosen.push(match work_at(works, order, *place) {
-            Some(work) => {
-                let state = DisambiguateState::Choose;
-                Some(cite_in_state(alloc, renderer, work, *place, state)?)
+        chosen.push(match (work_at(list, *place), told.get(*place)) {
+            (Some(work), Some(own)) => {
+                let (own, state) = (own.telling, DisambiguateState::Choose);
+                Some(cite_in_state(alloc, renderer, list, work, *place, own, state)?)
             }
-            None => None,
+            _ => None,
         })?;
     }
     Ok(chosen)
@@ -579,8 +633,7 @@ fn chosen_cites<T: EntryLike>(
 pub(crate) fn choices<T: EntryLike>(
     alloc: Global,
     renderer: &mut Renderer<'_>,
-    works: &[T],
-    order: &[usize],
+    list: &OrderedWorks<'_, T>,
     told: &[ToldCite],
 ) -> Result<Vec<bool>, ListError>
     ensures err { IfErr result IsListingError }
@@ -588,7 +641,7 @@ pub(crate) fn choices<T: EntryLike>(
     let all = all_places(alloc, told.len())?;
     let places = ambiguous(alloc, told, &all)?;
     let firsts = first_equal_cites(alloc, told, &places)?;
-    let chosen = chosen_cites(alloc, renderer, works, order, &places)?;
+    let chosen = chosen_cites(alloc, renderer, list, told, &places)?;
     let splits = splits(alloc, told, &places, &firsts, &chosen)?;
     let mut choices = vec![in alloc; false; told.len()]?;
     for (index, place) in places.iter().enumerate() {
@@ -605,5 +658,17 @@ pub(crate) fn forms_at(told: &[ToldCite], place: usize) -> Option<&NameDisambigu
     match told.get(place) {
         Some(cite) if cite.is_named => cite.forms.as_ref(),
         Some(_) | None => None,
+    }
+}
+
+/// The same for a cite of the work: they are not for a first cite that says more than later ones.
+pub(crate) fn forms_of_cite(
+    told: &[ToldCite],
+    place: usize,
+    is_first: bool,
+) -> Option<&NameDisambiguationProperties> {
+    match told.get(place) {
+        Some(cite) if is_first && !cite.is_first_too => None,
+        Some(_) | None => forms_at(told, place),
     }
 }

@@ -44,23 +44,31 @@ pub(crate) fn added_names(
     }
 }
 
-/// The names of a work that stand beside its suffix.
+/// The names of a work that stand beside its suffix. There are none if its first cite says more
+/// than later ones.
 fn names_beside<'t>(
     told: &'t [ToldCite],
     identities: &[Identity],
     work: usize,
 ) -> Option<&'t AddedNames> {
     let identity = identities.get(work)?;
-    if identity.year_suffix.is_none() && !identity.chooses {
+    if !identity.is_marked() {
         return None;
     }
     let cite = told.get(identity.number.get() as usize)?;
+    if !cite.is_first_too {
+        return None;
+    }
     cite.added.as_ref()
 }
 
 /// Puts names in the place of those that a cite begins with, if both are of one variable: if the
 /// author is suppressed, it may begin with other names.
-fn put_names(alloc: Global, cite: &mut ElemChildren, names: &AddedNames) -> Result<(), Memory> {
+pub(crate) fn put_names(
+    alloc: Global,
+    cite: &mut ElemChildren,
+    names: &AddedNames,
+) -> Result<(), Memory> {
     let Some(own) = cite.find_names_mut() else {
         return Ok(());
     };

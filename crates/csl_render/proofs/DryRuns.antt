@@ -23,7 +23,7 @@ use Rattle.csl_context.specs.State.{State}
 use Rattle.csl_context.specs.RenderInput.{RenderInput}
 use Rattle.csl_render.specs.declared.dry_run.KeptCall.{KeptCall}
 use Rattle.csl_render.specs.DryRun.{nodes_at, call_info, call_shows, IsCallInfo, HasListed}
-use Rattle.csl_render.specs.Plan.{DryView}
+use Rattle.csl_render.specs.Plan.{DryView, TakesBranch}
 use Rattle.csl_render.specs.Tree.{info, shows}
 
 -- a key that is equal to another in the order of numbers is that number
@@ -89,3 +89,7 @@ info_of_call w s d (Some fs) = refl
 pub shows_of_call : (w : RenderInput) (s : State) (v : Variable) (d : TextDressing) (o : Option ExpandedNodes) → shows w s v (expand_call d o) ≡ call_shows w s v o
 shows_of_call w s v d None = refl
 shows_of_call w s v d (Some fs) = refl
+
+pub no_branch_of_call : (w : RenderInput) (s : State) (d : TextDressing) (i : ℕ) (o : Option ExpandedNodes) → TakesBranch w s (expand_call d o) i
+no_branch_of_call w s d i None = tt
+no_branch_of_call w s d i (Some fs) = tt

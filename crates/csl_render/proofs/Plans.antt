@@ -1,6 +1,6 @@
 -- Plans. The dry run of a group, a macro, names or a choice adds the plan of the nodes inside.
 use Rattle.std.proofs.Common.{◌≡◌, ℕ, ◌<◌, ◌+◌, ◌-◌, ◌++◌, get_or, set, drop, suc, Bool, true, false, length, subst, List, [], ◌∷◌, Option, Some, None, option_map, map, if◌then◌else◌, refl, sym, ap, ap₂, ◌∙◌, arith}
-use Rattle.std.specs.Prelude.{◌||◌, ◌&&◌}
+use Rattle.std.specs.Prelude.{⊤, ◌||◌, ◌&&◌}
 use Rattle.std.specs.Bool.{MatchBool}
 use Rattle.std.proofs.lemmas.Bool.{false≢true}
 use Rattle.std.proofs.lemmas.List.{append-nil, append_assoc, at_drop_more, drop_at, length-append, set_at, take_at}
@@ -25,17 +25,18 @@ use Rattle.csl_entry.specs.Answers.{Answers}
 use Rattle.csl_names.specs.NamesForms.{writes_no_name}
 use Rattle.csl_names.specs.NamesLists.{PersonLists, all_empty, peeked_lists}
 use Rattle.csl_nodes.specs.Condition.{branch_matches, chosen_nodes, chosen_children}
-use Rattle.csl_nodes.specs.Usage.{Info, group_info, info_view, no_info}
+use Rattle.csl_nodes.specs.Usage.{Info, group_info, no_info}
 use Rattle.csl_render.specs.declared.plan.OwnedPlan.{OwnedPlan}
 use Rattle.csl_render.specs.declared.plan.NodeInfo.{NodeInfo}
 use Rattle.csl_render.specs.declared.plan.PlanItem.{PlanItem}
 use Rattle.csl_render.specs.DryRun.{Adds, Run}
+use Rattle.csl_render.specs.Flags.{info_of_flags}
 use Rattle.csl_render.specs.Names.{author, has_variable, is_refused, names_show, names_or_substitute_info, expanded_substitutes_of}
 use Rattle.csl_elements.specs.declared.variable_set.VariableSet.{VariableSet}
-use Rattle.csl_render.specs.Plan.{DryView, asks_for_author, state_for_dry_run, dry_now, dry_view, AreSuppressedAlike, AreAlikeOn, HasTested, HasAllTested, TellsAuthor, answer_of, AreItemsInside, AreItems, AreItemsOfBranches, AreItemsIfTaken, AreItemsOfSubstitutes, IsInfo, IsInfoOfNodes, IsInfoOfSubstitutes, IsDryRun}
+use Rattle.csl_render.specs.Plan.{DryView, asks_for_author, state_for_dry_run, dry_now, dry_view, AreSuppressedAlike, AreAlikeOn, HasTested, HasAllTested, TellsAuthor, answer_of, AreItemsInside, AreItems, AreItemsOfBranches, AreItemsIfTaken, AreItemsOfSubstitutes, TakesBranch, nodes_of_branch, IsInfo, IsInfoOfNodes, IsInfoOfSubstitutes, IsDryRun}
 use Rattle.csl_render.specs.Tree.{info, nodes_info, substitute_info, choice_info, shows, any_shows, substitute_shows, choice_shows}
 use Rattle.csl_elements.specs.VariableSet.{Has, IsWithin}
-use Rattle.csl_render.proofs.Chosen.{IsChoice, is_choice, choice_out, info_of_choice, shows_of_choice}
+use Rattle.csl_render.proofs.Chosen.{IsChoice, is_choice, choice_out, info_of_choice, shows_of_choice, takes_branch}
 use Rattle.csl_render.proofs.GroupView.{group_out}
 use Rattle.csl_elements.proofs.Rolled.{names_view}
 use Rattle.csl_render.proofs.Reading.{matches_same, lists_same, alike_within, alike_to_itself}
@@ -119,8 +120,8 @@ module _ {T : Type 0} where
 
   -- a node without nodes inside does not show the author
   pub leaf : (answers : T → Answers) (run : Run T) (f : ExpandedNode) (i : NodeInfo) → i.shows_author ≡ false → ((s : State) → TellsAuthor (render_input answers run.now) false (shows (render_input answers run.now) s author f))
-      → ((s : State) → AreAlikeOn (render_input answers run.now) i.read (dry_now run.now) s → answer_of i ≡ info (render_input answers run.now) s f) → Adds (IsInfo (render_input answers run.now) (dry_now run.now) f i) run run
-  leaf answers run f i told silent h = adds_none (IsInfo (render_input answers run.now) (dry_now run.now) f i) run (λ s alike. (h s alike, λ asks. told ∙ silent s asks, none_inside (render_input answers run.now) (dry_now run.now) s f))
+      → ((s : State) → AreAlikeOn (render_input answers run.now) i.read (dry_now run.now) s → answer_of i ≡ info (render_input answers run.now) s f) → ((s : State) → TakesBranch (render_input answers run.now) s f i.branch) → Adds (IsInfo (render_input answers run.now) (dry_now run.now) f i) run run
+  leaf answers run f i told silent h takes = adds_none (IsInfo (render_input answers run.now) (dry_now run.now) f i) run (λ s alike. (h s alike, λ asks. told ∙ silent s asks, none_inside (render_input answers run.now) (dry_now run.now) s f, takes s))
 
 -- ---- node by node
 
@@ -132,7 +133,7 @@ nodes_from env ns i x within is = at_drop_more (λ l. expand_nodes env (view_nod
 pub first_planned : (w : RenderInput) (d : DryView) (f : ExpandedNode) (fs : ExpandedNodes) (i : NodeInfo) (inside others : List PlanItem) → IsInfo w d f i inside → AreItems w d fs others → AreItems w d (expanded_node f fs) (record { info = i; inside = length inside } ∷ (inside ++ others))
 first_planned w d f fs i inside others one rest = (
   (let long = length-append inside others in omega (arith, long)),
-  (λ s alike. subst (λ is. (answer_of i ≡ info w s f) × TellsAuthor w i.shows_author (shows w s author f) × AreItemsInside w d s f is) (sym (take_at inside others (length inside) refl)) (one s alike)),
+  (λ s alike. subst (λ is. (answer_of i ≡ info w s f) × TellsAuthor w i.shows_author (shows w s author f) × AreItemsInside w d s f is × TakesBranch w s f i.branch) (sym (take_at inside others (length inside) refl)) (one s alike)),
   subst (λ is. AreItems w d fs is) (sym (drop_at inside others (length inside) refl)) rest,
 )
 
@@ -162,13 +163,14 @@ names_asked w d s env x is h = subst (λ n. AreItemsInside w d s (expand env n) 
 
 -- what a dry run from an empty plan gives
 pub asked : {T : Type 0} (answers : T → Answers) (now : ContextView T) (f : ExpandedNode) (i : NodeInfo) (end : Run T) (r : OwnedPlan) → Adds (IsInfo (render_input answers now) (dry_now now) f i) (record { now = now; items = [] }) end
-    → dry_view r.at ≡ dry_now now → r.answer ≡ i.answer → r.shows_author ≡ i.shows_author → r.inside.items ≡ end.items → IsDryRun answers now f r
-asked answers now f i end r h at answer told inside =
+    → dry_view r.at ≡ dry_now now → r.flags ≡ i.flags → r.shows_author ≡ i.shows_author → r.branch ≡ i.branch → r.inside.items ≡ end.items → IsDryRun answers now f r
+asked answers now f i end r h at answer told taken inside =
     let w = render_input answers now in
     let holds = h.hold now.state (alike_to_itself w i.read now.state) in (
-      ap info_view answer ∙ holds.0,
+      ap info_of_flags answer ∙ holds.0,
       λ asks. told ∙ holds.1 asks,
       subst (λ d. AreItemsInside w d now.state f r.inside.items) (sym at) (subst (AreItemsInside w (dry_now now) now.state f) (sym (inside ∙ ap (λ r. r.items) h.added)) holds.2),
+      subst (TakesBranch w now.state f) (sym taken) holds.3,
     )
 
 -- ---- the nodes that a choice takes
@@ -227,10 +229,10 @@ module _ (w : RenderInput) (s t : State) (read : VariableSet) (alike : AreSuppre
 
 module _ (w : RenderInput) (d : DryView) (i r : NodeInfo) (read : r.read ≡ i.read) (told : r.shows_author ≡ i.shows_author) where
   pub around : (fs : ExpandedNodes) (f : Info → Info) (is : List PlanItem) → IsInfoOfNodes w d fs i is → answer_of r ≡ f (answer_of i)
-      → (s : State) → AreAlikeOn w r.read d s → (answer_of r ≡ f (nodes_info w s fs)) × TellsAuthor w r.shows_author (any_shows w s author fs) × AreItems w d fs is
+      → (s : State) → AreAlikeOn w r.read d s → (answer_of r ≡ f (nodes_info w s fs)) × TellsAuthor w r.shows_author (any_shows w s author fs) × AreItems w d fs is × ⊤
   around fs f is h e s alike =
       let holds = h.0 s (subst (λ x. AreAlikeOn w x d s) read alike) in
-      (e ∙ ap f holds.0, λ asks. told ∙ holds.1 asks, h.1)
+      (e ∙ ap f holds.0, λ asks. told ∙ holds.1 asks, h.1, tt)
 
   pub around_group : (env : List ℕ → Option ExpandedNodes) (g : Group) (is : List PlanItem) → IsInfoOfNodes w d (expand_nodes env (view_nodes g.children.items)) i is → answer_of r ≡ group_info (answer_of i) → IsInfo w d (expand env (view_group g)) r is
   around_group env g is h e = subst (λ n. IsInfo w d (expand env n) r is) (sym (group_out g)) (around _ group_info is h e)
@@ -238,13 +240,14 @@ module _ (w : RenderInput) (d : DryView) (i r : NodeInfo) (read : r.read ≡ i.r
 -- the result for a choice, by that for the nodes that it takes in the state of the dry run
 pub around_taken : (w : RenderInput) (s : State) (env : List ℕ → Option ExpandedNodes) (c : Choose) (taken : Option Nodes) (tested : VariableSet) (r : NodeInfo) (is : List PlanItem) → HasAllTested tested c → IsWithin tested r.read → taken ≡ chosen_children w s (view_choose c)
     → ((u : State) → AreAlikeOn w r.read (state_for_dry_run w.instance.special s) u → (answer_of r ≡ choice_info w u (option_map (expand_nodes env) taken)) × TellsAuthor w r.shows_author (choice_shows w u author (option_map (expand_nodes env) taken)))
-    → AreItemsIfTaken w (state_for_dry_run w.instance.special s) (option_map (expand_nodes env) taken) is → IsInfo w (state_for_dry_run w.instance.special s) (expand env (view_choose c)) r is
-around_taken w s env c taken tested r is has within here tells inside u alike =
+    → AreItemsIfTaken w (state_for_dry_run w.instance.special s) (option_map (expand_nodes env) taken) is → nodes_of_branch (view_choose c) r.branch ≡ taken → IsInfo w (state_for_dry_run w.instance.special s) (expand env (view_choose c)) r is
+around_taken w s env c taken tested r is has within here tells inside place u alike =
     let there = here ∙ same_chosen w s u tested (λ v h. alike.1 v (within v h)) c has in
     let told = tells u alike in (
       told.0 ∙ ap (λ o. choice_info w u (option_map (expand_nodes env) o)) there ∙ sym (info_of_choice w u env c),
       λ asks. told.1 asks ∙ ap (λ o. choice_shows w u author (option_map (expand_nodes env) o)) there ∙ sym (shows_of_choice w u env author c),
       asked_nodes w env (state_for_dry_run w.instance.special s) u is c (subst (λ o. AreItemsIfTaken w (state_for_dry_run w.instance.special s) (option_map (expand_nodes env) o) is) there inside),
+      takes_branch w u env c r.branch (place ∙ there),
     )
 
 -- the result for substitutes, by that for the nodes that they take
@@ -301,6 +304,7 @@ module _ (n : NamesNode) (ss : ExpandedSubstitutes) where
               ∙ ap (λ (ls : PersonLists). told_by (all_empty ls) (writes_no_name n ls) u) lists,
           λ asks. told.1 asks ∙ ap (λ b. shown_by b u) empties ∙ ap (λ (ls : PersonLists). shown_by (all_empty ls) u) lists,
           inside,
+          tt,
         )
 
 -- the result for names, by what the dry run finds of their lists, and the result for their substitutes

@@ -3,6 +3,7 @@
 pub mod Names
 pub mod Expanded
 pub mod Tree
+pub mod Flags
 pub mod Plan
 pub mod DryRun
 pub mod Render

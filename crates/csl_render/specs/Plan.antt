@@ -9,14 +9,15 @@
 -- the order of the nodes: each before those for the nodes inside its node. The results for a list
 -- of nodes may break off. The nodes after its end have no plan. Only private contracts cite these
 -- definitions.
-use Rattle.std.specs.Prelude.{◌≡◌, ◌≤◌, ⊤, Bool, true, false, ◌&&◌, List, [], ◌∷◌, length, take, drop, Option, Some, None}
+use Rattle.std.specs.Prelude.{◌≡◌, ◌≤◌, ⊤, ℕ, zero, suc, Bool, true, false, ◌&&◌, List, [], ◌∷◌, length, take, drop, Option, Some, None, if◌then◌else◌}
 use Rattle.std.specs.Bool.{MatchBool}
 use Rattle.csl_elements.specs.declared.element.Choose.{Choose, out-Choose}
 use Rattle.csl_elements.specs.declared.element.Names.{Names}
 use Rattle.csl_elements.specs.declared.taxonomy.Variable.{Variable}
 use Rattle.csl_elements.specs.declared.taxonomy.Variable.TheVariants as variable
 use Rattle.csl_elements.specs.declared.variable_set.VariableSet.{VariableSet}
-use Rattle.csl_elements.specs.Node.{Tests, Node, Nodes, ExpandedNode, expanded_text, expanded_macro, unknown_macro, expanded_number, expanded_label, expanded_date, expanded_names, shorthand, expanded_choose, expanded_group, ExpandedNodes, no_expanded_nodes, expanded_node, ExpandedBranches, no_expanded_branches, expanded_otherwise, expanded_branch, ExpandedSubstitutes, no_expanded_substitutes, expanded_substitute}
+use Rattle.csl_elements.specs.Node as node
+use Rattle.csl_elements.specs.Node.{Tests, Node, Nodes, Branches, no_branches, otherwise, branch, ExpandedNode, expanded_text, expanded_macro, unknown_macro, expanded_number, expanded_label, expanded_date, expanded_names, shorthand, expanded_choose, expanded_group, ExpandedNodes, no_expanded_nodes, expanded_node, ExpandedBranches, no_expanded_branches, expanded_otherwise, expanded_branch, ExpandedSubstitutes, no_expanded_substitutes, expanded_substitute}
 use Rattle.csl_elements.specs.VariableSet.{has, Has}
 use Rattle.csl_elements.specs.View.{view_branch}
 use Rattle.csl_entry.specs.declared.citation.cite.SpecialForm.{SpecialForm}
@@ -27,13 +28,14 @@ use Rattle.csl_context.specs.State.{State, is_suppressed}
 use Rattle.csl_context.specs.RenderInput.{RenderInput}
 use Rattle.csl_context.specs.Context.{ContextView, render_input}
 use Rattle.csl_nodes.specs.Condition.{all_if, branch_matches}
-use Rattle.csl_nodes.specs.Usage.{Info, info_view}
+use Rattle.csl_nodes.specs.Usage.{Info}
 use Rattle.csl_render.specs.declared.plan.OwnedPlan.{OwnedPlan}
 use Rattle.csl_render.specs.declared.plan.DryState.{DryState}
 use Rattle.csl_render.specs.declared.plan.ListPlan.{ListPlan}
 use Rattle.csl_render.specs.declared.plan.NodeInfo.{NodeInfo}
 use Rattle.csl_render.specs.declared.plan.NodePlan.{NodePlan}
 use Rattle.csl_render.specs.declared.plan.PlanItem.{PlanItem}
+use Rattle.csl_render.specs.Flags.{info_of_flags}
 use Rattle.csl_render.specs.Expanded.{expanded, expanded_nodes, expanded_substitutes}
 use Rattle.csl_render.specs.Names.{author}
 use Rattle.csl_render.specs.Tree.{info, nodes_info, substitute_info, shows, any_shows, substitute_shows}
@@ -89,10 +91,56 @@ asks_for_author (Some SuppressAuthor) = true
 abbrev pub TellsAuthor : RenderInput → Bool → Bool → Type 0
 TellsAuthor w told shown = asks_for_author w.instance.special ≡ true → told ≡ shown
 
+-- ---- the branch that a choice takes
+-- A branch is told by the number of branches with conditions before it. The `else` is after all of
+-- them.
+
+abbrev pub branch_at : Branches → ℕ → Option Nodes
+branch_at no_branches i = None
+branch_at (otherwise ns) i = Some ns
+branch_at (branch ts ns bs) zero = Some ns
+branch_at (branch ts ns bs) (suc i) = branch_at bs i
+
+-- the nodes of a branch of a choice, if it has it
+abbrev pub nodes_of_branch : Node → ℕ → Option Nodes
+nodes_of_branch (node.text t d) i = None
+nodes_of_branch (node.call name d) i = None
+nodes_of_branch (node.number n) i = None
+nodes_of_branch (node.label v l) i = None
+nodes_of_branch (node.date d) i = None
+nodes_of_branch (node.names n ss) i = None
+nodes_of_branch (node.choose bs) i = branch_at bs i
+nodes_of_branch (node.group delimiter d ns) i = None
+
+abbrev pub expanded_branch_at : ExpandedBranches → ℕ → Option ExpandedNodes
+expanded_branch_at no_expanded_branches i = None
+expanded_branch_at (expanded_otherwise fs) i = Some fs
+expanded_branch_at (expanded_branch ts fs cs) zero = Some fs
+expanded_branch_at (expanded_branch ts fs cs) (suc i) = expanded_branch_at cs i
+
+-- the nodes that a choice takes in a state, if it takes any
+abbrev pub taken_nodes : RenderInput → State → ExpandedBranches → Option ExpandedNodes
+taken_nodes w s no_expanded_branches = None
+taken_nodes w s (expanded_otherwise fs) = Some fs
+taken_nodes w s (expanded_branch ts fs cs) = if branch_matches w s ts then Some fs else taken_nodes w s cs
+
+-- a choice takes the nodes of this branch; other nodes have no branch
+abbrev pub TakesBranch : RenderInput → State → ExpandedNode → ℕ → Type 0
+TakesBranch w s (expanded_text t e) i = ⊤
+TakesBranch w s (expanded_macro fs e) i = ⊤
+TakesBranch w s unknown_macro i = ⊤
+TakesBranch w s (expanded_number n) i = ⊤
+TakesBranch w s (expanded_label v l) i = ⊤
+TakesBranch w s (expanded_date n) i = ⊤
+TakesBranch w s (expanded_names n ss) i = ⊤
+TakesBranch w s (shorthand written n) i = ⊤
+TakesBranch w s (expanded_choose cs) i = expanded_branch_at cs i ≡ taken_nodes w s cs
+TakesBranch w s (expanded_group delimiter e fs) i = ⊤
+
 -- ---- the results for a node and for the nodes inside it
 
 abbrev pub answer_of : NodeInfo → Info
-answer_of i = info_view i.answer
+answer_of i = info_of_flags i.flags
 
 -- `d` is what the dry runs read of their state
 module _ (w : RenderInput) (d : DryView) where
@@ -119,7 +167,7 @@ module _ (w : RenderInput) (d : DryView) where
     AreItems (expanded_node f fs) [] = ⊤
     AreItems (expanded_node f fs) (i ∷ is) =
         (i.inside ≤ length is)
-        × ((s : State) → AreAlikeOn w i.info.read d s → (answer_of i.info ≡ info w s f) × TellsAuthor w i.info.shows_author (shows w s author f) × AreItemsInside s f (take i.inside is))
+        × ((s : State) → AreAlikeOn w i.info.read d s → (answer_of i.info ≡ info w s f) × TellsAuthor w i.info.shows_author (shows w s author f) × AreItemsInside s f (take i.inside is) × TakesBranch w s f i.info.branch)
         × AreItems fs (drop i.inside is)
 
     pub AreItemsOfBranches : State → ExpandedBranches → List PlanItem → Type 0
@@ -138,7 +186,7 @@ module _ (w : RenderInput) (d : DryView) where
 
   -- the result for a node, and the items for the nodes inside it
   abbrev pub IsInfo : ExpandedNode → NodeInfo → List PlanItem → Type 0
-  IsInfo f i is = (s : State) → AreAlikeOn w i.read d s → (answer_of i ≡ info w s f) × TellsAuthor w i.shows_author (shows w s author f) × AreItemsInside s f is
+  IsInfo f i is = (s : State) → AreAlikeOn w i.read d s → (answer_of i ≡ info w s f) × TellsAuthor w i.shows_author (shows w s author f) × AreItemsInside s f is × TakesBranch w s f i.branch
 
   -- the result for nodes together, and the items for each
   abbrev pub IsInfoOfNodes : ExpandedNodes → NodeInfo → List PlanItem → Type 0
@@ -156,7 +204,7 @@ ArePlans w fs p = AreItems w (dry_view p.at.now) fs p.items.now
 
 -- a plan of a node that holds for a state
 abbrev pub IsPlan : RenderInput → State → ExpandedNode → NodePlan → Type 0
-IsPlan w s f p = (info_view p.answer ≡ info w s f) × TellsAuthor w p.shows_author (shows w s author f) × AreItemsInside w (dry_view p.inside.at.now) s f p.inside.items.now
+IsPlan w s f p = (info_of_flags p.flags ≡ info w s f) × TellsAuthor w p.shows_author (shows w s author f) × AreItemsInside w (dry_view p.inside.at.now) s f p.inside.items.now × TakesBranch w s f p.branch
 
 -- a plan of a node with plans of the nodes inside: of these, or of the first of these substitutes
 abbrev pub HasPlans : RenderInput → ExpandedNodes → NodePlan → Type 0
@@ -175,9 +223,10 @@ module _ {T : Type 0} (answers : T → Answers) (now : ContextView T) where
   -- what a dry run of a node gives a plan that holds
   abbrev pub IsDryRun : ExpandedNode → OwnedPlan → Type 0
   IsDryRun f r =
-      (info_view r.answer ≡ info (render_input answers now) now.state f)
+      (info_of_flags r.flags ≡ info (render_input answers now) now.state f)
       × TellsAuthor (render_input answers now) r.shows_author (shows (render_input answers now) now.state author f)
       × AreItemsInside (render_input answers now) (dry_view r.at) now.state f r.inside.items
+      × TakesBranch (render_input answers now) now.state f r.branch
 
   abbrev pub IsDryRunOf : Node → OwnedPlan → Type 0
   IsDryRunOf n = IsDryRun (expanded now.style n)

@@ -1,55 +1,75 @@
 //! Choices (CSL 1.0.2, Choose).
 //! Definitions: specs/Tree.antt, specs/Plan.antt.
 
-ghost use Rattle.std.specs.Prelude.{◌<◌, ◌≡◌, List, IfOk, IfErr, IfSome, option_map};
+ghost use Rattle.std.specs.Prelude.{◌<◌, ◌≡◌, IfOk, IfErr, IfSome, option_map};
 ghost use Rattle.csl_elements.specs.declared.taxonomy.Variable.{Variable};
 ghost use Rattle.csl_elements.specs.declared.taxonomy.Variable.TheVariants as variable;
 ghost use Rattle.csl_entry.specs.Alike.{Each};
-ghost use Rattle.csl_elements.specs.Node.{size, sizes};
+ghost use Rattle.csl_elements.specs.Node.{expand, expand_nodes, size, sizes};
 ghost use Rattle.csl_elements.specs.View.{view_nodes, view_branch, view_choose};
 ghost use Rattle.csl_context.specs.Context.{Reads, GivesBy, FailsSilently, render_input};
 ghost use Rattle.csl_nodes.specs.Condition as spec;
-ghost use Rattle.csl_render.specs.declared.plan.PlanItem.{PlanItem};
 ghost use Rattle.csl_render.specs.Expanded.{expanded, expanded_nodes, expanded_taken};
-ghost use Rattle.csl_render.specs.Plan.{DryView, HasTested, HasAllTested, AreItemsInside, AreItemsIfTaken};
+ghost use Rattle.csl_render.specs.Names.{Macros};
+ghost use Rattle.csl_render.specs.Plan.{HasTested, HasAllTested, HasPlansOf, IsPlanOf, TakesBranch, nodes_of_branch};
 ghost use Rattle.csl_elements.specs.VariableSet.{Has, IsWithin};
 ghost use Rattle.csl_render.specs.Tree.{shows, node_output, choice_shows, choice_output};
 
 use crate::dry_run::DryRun;
 use crate::element::{any_shows, nodes_info, render_with_delimiter};
+use crate::flags::InfoFlags;
 use crate::node::Node;
 use crate::plan::{NodeInfo, NodePlan};
 use crate::query::Query;
 use crate::variable_set::{with_dates, with_each};
 use csl_context::{Context, RenderError};
 use csl_entry::EntryLike;
-use csl_nodes::{branch_holds, no_info, push_nothing, without_group_flag};
+use csl_nodes::{branch_holds, push_nothing};
 use csl_style::{
     Choose, ChooseBranch, DateVariable, LayoutRenderingElement, Variable, VariableSet,
 };
 use lit_model::Memory;
 
-/// Returns the nodes of the first branch whose conditions satisfy its match, else those of
-/// `cs:else`, if there is one. Lookups are silent.
-fn first_taken<'a, 's, T: EntryLike>(
+/// The branch that a choice takes: the first whose conditions satisfy its match, else the
+/// `cs:else`. It is told by the number of branches with conditions before it. Lookups are silent.
+fn first_taken<'s, T: EntryLike>(
     ctx: &Context<'s, T>,
-    choose: &'a Choose,
-) -> Result<Option<&'a [LayoutRenderingElement]>, RenderError>
-    ensures value { GivesBy (option_map (λ ns. view_nodes ns.now)) result (spec.chosen_children
+    choose: &Choose,
+) -> Result<usize, RenderError>
+    ensures value { GivesBy (nodes_of_branch (view_choose choose.now)) result (spec.chosen_children
         (render_input T.answers ctx.now) ctx.now.state (view_choose choose.now)) }
     ensures err { IfErr result (λ e. FailsSilently e ctx.now) }
 {
     if branch_holds(ctx, &choose.if_)? {
-        return Ok(Some(choose.if_.children.as_slice()));
+        return Ok(0);
     }
+    let mut before: usize = 1;
     for branch in &choose.else_if {
         if branch_holds(ctx, branch)? {
-            return Ok(Some(branch.children.as_slice()));
+            return Ok(before);
         }
+        before += 1;
     }
-    match &choose.otherwise {
-        Some(otherwise) => Ok(Some(otherwise.as_slice())),
-        None => Ok(None),
+    Ok(before)
+}
+
+/// The nodes of a branch of a choice, told by the number of branches with conditions before it. The
+/// `cs:else`, if there is one, is after all of them.
+fn children_of_branch(choose: &Choose, branch: usize) -> Option<&[LayoutRenderingElement]>
+    ensures value { option_map (λ ns. view_nodes ns.now) result
+        ≡ nodes_of_branch (view_choose choose.now) branch }
+    ensures within { (env : Macros) → IfSome result (λ ns.
+        sizes (expand_nodes env (view_nodes ns.now)) < size (expand env (view_choose choose.now))) }
+{
+    if branch == 0 {
+        return Some(choose.if_.children.as_slice());
+    }
+    match choose.else_if.get(branch - 1) {
+        Some(taken) => Some(taken.children.as_slice()),
+        None => match &choose.otherwise {
+            Some(otherwise) => Some(otherwise.as_slice()),
+            None => None,
+        },
     }
 }
 
@@ -65,11 +85,22 @@ pub fn choose_children<'a, 's, T: EntryLike>(
         ctx.old.state (view_choose choose.now)) ctx.old ctx.new }
 {
     ctx.ensure_live()?;
-    ctx.settle(first_taken(ctx, choose))
+    let branch = ctx.settle(first_taken(ctx, choose))?;
+    Ok(children_of_branch(choose, branch))
 }
 
-/// Returns the nodes that a choice takes. The choice shows the variables they show, and renders
-/// them delimited. The plan of the nodes inside the choice is that of these nodes.
+/// The branch that a choice takes, for a dry run.
+fn branch_taken<'s, T: EntryLike>(ctx: &Context<'s, T>, choose: &Choose) -> Result<usize, Memory>
+    ensures { GivesBy (nodes_of_branch (view_choose choose.now)) result (spec.chosen_children
+        (render_input T.answers ctx.now) ctx.now.state (view_choose choose.now)) }
+{
+    match first_taken(ctx, choose) {
+        Ok(branch) => Ok(branch),
+        Err(_) => Err(Memory),
+    }
+}
+
+/// Returns the nodes that a choice takes. The choice shows the variables they show.
 fn chosen_children<'s, T: EntryLike>(
     ctx: &Context<'s, T>,
     choose: &'s Choose,
@@ -77,26 +108,51 @@ fn chosen_children<'s, T: EntryLike>(
     ensures within { IfOk result (λ taken. IfSome taken (λ ns.
         sizes (expanded_nodes ctx.now.style (view_nodes ns.now))
         < size (expanded ctx.now.style (view_choose choose.now)))) }
-    ensures value { GivesBy (option_map (λ ns. view_nodes ns.now)) result (spec.chosen_children
-        (render_input T.answers ctx.now) ctx.now.state (view_choose choose.now)) }
     ensures shown { IfOk result (λ taken. (v : Variable) → shows (render_input T.answers ctx.now)
         ctx.now.state v (expanded ctx.now.style (view_choose choose.now))
         ≡ choice_shows (render_input T.answers ctx.now) ctx.now.state v
         (expanded_taken ctx.now.style taken)) }
+{
+    let branch = branch_taken(ctx, choose)?;
+    Ok(children_of_branch(choose, branch))
+}
+
+/// The branch that a choice takes: that of its plan, or by its conditions if it has no plan.
+fn branch_by_plan<'p, 's, T: EntryLike>(
+    ctx: &Context<'s, T>,
+    choose: &Choose,
+    plan: Option<&NodePlan<'p>>,
+) -> Result<usize, Memory>
+    requires { IfSome plan (λ p. IsPlanOf T.answers ctx.now (view_choose choose.now) p.now) }
+    ensures { IfOk result (TakesBranch (render_input T.answers ctx.now) ctx.now.state
+        (expanded ctx.now.style (view_choose choose.now))) }
+{
+    match plan {
+        Some(plan) => Ok(plan.branch()),
+        None => branch_taken(ctx, choose),
+    }
+}
+
+/// Returns the nodes that a choice takes, by its plan if it has one. The choice renders them
+/// delimited. The plan of the nodes inside the choice is that of these nodes.
+fn planned_children<'p, 's, T: EntryLike>(
+    ctx: &Context<'s, T>,
+    choose: &'s Choose,
+    plan: Option<&NodePlan<'p>>,
+) -> Result<Option<&'s [LayoutRenderingElement]>, Memory>
+    requires { IfSome plan (λ p. IsPlanOf T.answers ctx.now (view_choose choose.now) p.now) }
+    ensures within { IfOk result (λ taken. IfSome taken (λ ns.
+        sizes (expanded_nodes ctx.now.style (view_nodes ns.now))
+        < size (expanded ctx.now.style (view_choose choose.now)))) }
     ensures output { IfOk result (λ taken. node_output (render_input T.answers ctx.now)
         (expanded ctx.now.style (view_choose choose.now)) ctx.now.inherited ctx.now.state
         ≡ choice_output (render_input T.answers ctx.now) (expanded_taken ctx.now.style taken)
         ctx.now.inherited ctx.now.state) }
-    ensures plan { IfOk result (λ taken. (at : DryView) → (items : List PlanItem)
-        → AreItemsInside (render_input T.answers ctx.now) at ctx.now.state
-        (expanded ctx.now.style (view_choose choose.now)) items
-        → AreItemsIfTaken (render_input T.answers ctx.now) at (expanded_taken ctx.now.style taken)
-        items) }
+    ensures plan { IfOk result (λ taken. IfSome taken (λ ns. IfSome plan.entry (λ p.
+        HasPlansOf T.answers ctx.now (view_nodes ns.now) p.now))) }
 {
-    match first_taken(ctx, choose) {
-        Ok(taken) => Ok(taken),
-        Err(_) => Err(Memory),
-    }
+    let branch = branch_by_plan(ctx, choose, plan)?;
+    Ok(children_of_branch(choose, branch))
 }
 
 /// The set with the variables of tests too, if there are any.
@@ -151,14 +207,15 @@ impl Node for Choose {
         run: &mut DryRun<'c, 's, T>,
     ) -> Result<NodeInfo, Memory> {
         let tested = tested_variables(self);
-        match chosen_children(run.context(), self)? {
+        let branch = branch_taken(run.context(), self)?;
+        match children_of_branch(self, branch) {
             Some(nodes) => {
                 let info = nodes_info(nodes, run)?;
-                let answer = without_group_flag(info.answer);
+                let flags = info.flags.without_group_flag();
                 let read = tested.union(info.read);
-                Ok(NodeInfo::new(answer, read).with_author(info.shows_author))
+                Ok(NodeInfo::of_choice(flags, read, branch).with_author(info.shows_author))
             }
-            None => Ok(NodeInfo::new(no_info(), tested)),
+            None => Ok(NodeInfo::of_choice(InfoFlags::none(), tested, branch)),
         }
     }
 
@@ -179,7 +236,7 @@ impl Node for Choose {
         ctx: &mut Context<'s, T>,
         plan: Option<&NodePlan<'p>>,
     ) -> Result<(), RenderError> {
-        let taken = chosen_children(ctx, self);
+        let taken = planned_children(ctx, self, plan);
         match ctx.attempt(taken)? {
             Some(nodes) => render_with_delimiter(ctx, nodes, plan),
             None => push_nothing(ctx),

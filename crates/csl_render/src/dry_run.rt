@@ -23,12 +23,12 @@ const ROOM_OF_A_PLAN: usize = 20;
 /// The room made for more items. Most plans need no more than both.
 const MORE_ROOM: usize = 44;
 
-/// The most macros of a style whose results are kept in a list. To search it costs less than to look
-/// up the places of so few names.
-const MOST_LISTED: usize = 32;
+/// The most macros of a style whose results are kept in a list, as many as the largest published
+/// style has. To search it costs less than to look up the places of so few names.
+const MOST_LISTED: usize = 67;
 
 /// The room made for results in a list. It is what most cites need.
-const ROOM_FOR_CALLS: usize = 16;
+const ROOM_FOR_CALLS: usize = 20;
 
 /// The place of the macro of a name, if the style has it.
 #[tactic(auto, using(crate::proofs::DryRuns::nodes_called))]

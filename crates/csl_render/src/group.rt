@@ -17,7 +17,6 @@ use crate::plan::{DryState, NodeInfo, NodePlan, OwnedPlan};
 use crate::query::Query;
 use csl_context::{BodyDressing, Context, Mark, RenderError};
 use csl_entry::EntryLike;
-use csl_nodes::info_of_group;
 use csl_style::{Display, Group};
 use lit_model::Memory;
 
@@ -30,7 +29,7 @@ impl Node for Group {
         run: &mut DryRun<'c, 's, T>,
     ) -> Result<NodeInfo, Memory> {
         let info = nodes_info(&self.children, run)?;
-        Ok(info.with_answer(info_of_group(info.answer)))
+        Ok(info.with_flags(info.flags.of_group()))
     }
 
     #[cycle(shows)]

@@ -24,7 +24,7 @@ impl RenderCsl for Layout {
     ) -> Result<(bool, UsageInfo), RenderError> {
         let info = nodes_info(&self.elements, &mut DryRun::new(ctx));
         let info = ctx.attempt(info)?;
-        Ok(without_group_flag(info.answer))
+        Ok(without_group_flag(info.answer()))
     }
 
     fn will_render<'s, T: EntryLike>(

@@ -13,6 +13,7 @@ mod choose;
 mod cites;
 mod dry_run;
 mod element;
+mod flags;
 mod group;
 mod layout;
 mod leaves;

@@ -32,7 +32,7 @@ use csl_names::{
     PersonList, all_empty, commit_names, may_hide, no_persons, peeked_lists, resolved_lists,
     write_names, writes_no_name,
 };
-use csl_nodes::{UsageInfo, no_info, push_nothing, without_group_flag};
+use csl_nodes::{UsageInfo, no_info, push_nothing};
 use csl_style::{LayoutRenderingElement, NameVariable, Names, NamesParts, Variable, VariableSet};
 use lit_model::Memory;
 
@@ -226,7 +226,7 @@ fn substitute_info<'c, 's, T: EntryLike>(
     match substitute_children(names) {
         Some(nodes) => {
             let info = nodes_info(nodes, run)?;
-            Ok(info.with_answer(without_group_flag(info.answer)))
+            Ok(info.with_flags(info.flags.without_group_flag()))
         }
         None => Ok(NodeInfo::new(no_info(), VariableSet::new())),
     }
@@ -300,7 +300,7 @@ impl Node for Names {
         let tried = substitute_info(self, run)?;
         let shown = shows_author(ctx, self, summary.is_empty, tried.shows_author);
         let refused = refuses(ctx, self, summary.is_empty, shown);
-        let answer = void_info(refused, tried.answer);
+        let answer = void_info(refused, tried.answer());
         let read = read.union(tried.read);
         Ok(NodeInfo::new(answer, read).with_author(shown))
     }

@@ -65,7 +65,7 @@ impl<N: Node> RenderCsl for N {
     ) -> Result<(bool, UsageInfo), RenderError> {
         let info = self.node_info(&mut DryRun::new(ctx));
         let info = ctx.attempt(info)?;
-        Ok(info.answer)
+        Ok(info.answer())
     }
 
     fn will_render<'s, T: EntryLike>(

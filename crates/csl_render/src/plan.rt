@@ -7,20 +7,24 @@ ghost use Rattle.csl_elements.specs.Node.{ExpandedNode, ExpandedNodes, expanded_
 ghost use Rattle.csl_elements.specs.VariableSet.{has};
 ghost use Rattle.csl_context.specs.Context.{render_input};
 ghost use Rattle.csl_nodes.specs.Usage.{info_view, info_union, as_child_info, usage_flags_of};
+ghost use Rattle.csl_render.specs.Flags.{info_of_flags};
 ghost use Rattle.csl_render.specs.Plan as spec;
 
+use crate::flags::InfoFlags;
 use csl_context::Context;
 use csl_entry::{EntryLike, SpecialForm};
-use csl_nodes::{UsageInfo, add_child_info};
+use csl_nodes::UsageInfo;
 use csl_style::VariableSet;
 
 /// The result of a dry run of a node.
 #[derive(Clone, Copy)]
 pub(crate) struct NodeInfo {
     /// Whether the node would print, and its usage flags.
-    pub(crate) answer: (bool, UsageInfo),
+    pub(crate) flags: InfoFlags,
     /// Whether the node shows the author, if the special form asks.
     pub(crate) shows_author: bool,
+    /// The branch that a choice takes: the number of its branches with conditions before it.
+    pub(crate) branch: usize,
     /// The variables that the dry run read. The result holds while the same of them are suppressed.
     pub(crate) read: VariableSet,
 }
@@ -32,22 +36,41 @@ impl NodeInfo {
         ensures read { result.read ≡ read }
         ensures author { result.shows_author ≡ false }
     {
+        NodeInfo::of_choice(InfoFlags::of(answer), read, 0)
+    }
+
+    /// The result for a choice that takes a branch and does not show the author.
+    pub(crate) fn of_choice(flags: InfoFlags, read: VariableSet, branch: usize) -> NodeInfo
+        ensures answer { spec.answer_of result ≡ info_of_flags flags }
+        ensures read { result.read ≡ read }
+        ensures author { result.shows_author ≡ false }
+        ensures branch { result.branch ≡ branch }
+    {
         NodeInfo {
-            answer,
+            flags,
             shows_author: false,
+            branch,
             read,
         }
     }
 
-    /// The result with another answer.
-    pub(crate) fn with_answer(self, answer: (bool, UsageInfo)) -> NodeInfo
-        ensures answer { spec.answer_of result ≡ info_view answer }
+    /// Whether the node would print, and its usage flags.
+    pub(crate) fn answer(&self) -> (bool, UsageInfo)
+        ensures { info_view result ≡ spec.answer_of self.now }
+    {
+        self.flags.answer()
+    }
+
+    /// The result with other flags.
+    pub(crate) fn with_flags(self, flags: InfoFlags) -> NodeInfo
+        ensures answer { spec.answer_of result ≡ info_of_flags flags }
         ensures read { result.read ≡ self.read }
         ensures author { result.shows_author ≡ self.shows_author }
     {
         NodeInfo {
-            answer,
+            flags,
             shows_author: self.shows_author,
+            branch: self.branch,
             read: self.read,
         }
     }
@@ -57,10 +80,12 @@ impl NodeInfo {
         ensures answer { spec.answer_of result ≡ spec.answer_of self }
         ensures read { result.read ≡ self.read }
         ensures author { result.shows_author ≡ shows_author }
+        ensures branch { result.branch ≡ self.branch }
     {
         NodeInfo {
-            answer: self.answer,
+            flags: self.flags,
             shows_author,
+            branch: self.branch,
             read: self.read,
         }
     }
@@ -73,8 +98,9 @@ impl NodeInfo {
         ensures author { result.shows_author ≡ (self.shows_author || child.shows_author) }
     {
         NodeInfo {
-            answer: add_child_info(self.answer, child.answer, is_group),
+            flags: self.flags.with_child(child.flags, is_group),
             shows_author: self.shows_author || child.shows_author,
+            branch: 0,
             read: self.read.union(child.read),
         }
     }
@@ -149,8 +175,9 @@ impl DryState {
 #[derive(Drop)]
 pub(crate) struct OwnedPlan {
     at: DryState,
-    answer: (bool, UsageInfo),
+    flags: InfoFlags,
     shows_author: bool,
+    branch: usize,
     inside: Vec<PlanItem>,
 }
 
@@ -159,28 +186,32 @@ impl OwnedPlan {
     /// inside.
     pub(crate) fn new(at: DryState, info: NodeInfo, inside: Vec<PlanItem>) -> OwnedPlan
         ensures at { result.at ≡ at }
-        ensures answer { result.answer ≡ info.answer }
+        ensures flags { result.flags ≡ info.flags }
         ensures author { result.shows_author ≡ info.shows_author }
+        ensures branch { result.branch ≡ info.branch }
         ensures inside { result.inside.items ≡ inside.items }
     {
         OwnedPlan {
             at,
-            answer: info.answer,
+            flags: info.flags,
             shows_author: info.shows_author,
+            branch: info.branch,
             inside,
         }
     }
 
     /// The plan of the node.
     pub(crate) fn plan(&self) -> NodePlan<'_>
-        ensures answer { result.answer ≡ self.now.answer }
+        ensures flags { result.flags ≡ self.now.flags }
         ensures author { result.shows_author ≡ self.now.shows_author }
+        ensures branch { result.branch ≡ self.now.branch }
         ensures at { result.inside.at.now ≡ self.now.at }
         ensures items { result.inside.items.now ≡ self.now.inside.items }
     {
         NodePlan {
-            answer: self.answer,
+            flags: self.flags,
             shows_author: self.shows_author,
+            branch: self.branch,
             inside: ListPlan {
                 at: &self.at,
                 items: self.inside.as_slice(),
@@ -192,24 +223,25 @@ impl OwnedPlan {
 /// A plan of a node: what its dry run answered, and the plan of the nodes inside.
 #[derive(Clone, Copy)]
 pub(crate) struct NodePlan<'p> {
-    answer: (bool, UsageInfo),
+    flags: InfoFlags,
     shows_author: bool,
+    branch: usize,
     inside: ListPlan<'p>,
 }
 
 impl<'p> NodePlan<'p> {
     /// Whether the node would print.
     pub(crate) fn prints(&self) -> bool
-        ensures { result ≡ (info_view self.now.answer).prints }
+        ensures { result ≡ (info_of_flags self.now.flags).prints }
     {
-        self.answer.0
+        self.flags.prints()
     }
 
     /// The usage flags of the node.
     pub(crate) fn usage(&self) -> UsageInfo
-        ensures { usage_flags_of result ≡ (info_view self.now.answer).flags }
+        ensures { usage_flags_of result ≡ (info_of_flags self.now.flags).flags }
     {
-        self.answer.1
+        self.flags.usage()
     }
 
     /// Whether the node shows the author, if the special form asks.
@@ -217,6 +249,13 @@ impl<'p> NodePlan<'p> {
         ensures { result ≡ self.now.shows_author }
     {
         self.shows_author
+    }
+
+    /// The branch that a choice takes: the number of its branches with conditions before it.
+    pub(crate) fn branch(&self) -> usize
+        ensures { result ≡ self.now.branch }
+    {
+        self.branch
     }
 }
 
@@ -246,8 +285,9 @@ impl<'p> ListPlan<'p> {
             return None;
         }
         Some(NodePlan {
-            answer: first.info.answer,
+            flags: first.info.flags,
             shows_author: first.info.shows_author,
+            branch: first.info.branch,
             inside: ListPlan {
                 at: self.at,
                 items: inside,

@@ -26,6 +26,8 @@ mod csl_tree_tests;
 #[cfg(test)]
 mod csl_wire_cite_tests;
 #[cfg(test)]
+mod csl_wire_list_tests;
+#[cfg(test)]
 mod csl_wire_reply_tests;
 #[cfg(test)]
 mod csl_wire_tests;

@@ -108,6 +108,7 @@ fn citation_options(forms: &Forms<'_>) -> Result<CitationOptions, Fault> {
         let rule: Option<GivenNameRule> = own.choice("givenname-disambiguation-rule")?;
         options.given_name_rule = rule.unwrap_or(options.given_name_rule);
         options.adds_year_suffix = own.is_true("disambiguate-add-year-suffix")?;
+        options.begins_with_capital = own.value("class") == Some("note");
     }
     Ok(options)
 }
@@ -142,7 +143,12 @@ fn bibliography_options(forms: &Forms<'_>) -> Result<BibliographyOptions, Fault>
 /// The style of these forms with the options that they have.
 pub fn list_style(forms: &Forms<'_>, style: Style) -> Result<ListStyle, Fault> {
     let (citation, bibliography) = (citation_options(forms)?, bibliography_options(forms)?);
-    Ok(ListStyle::new(forms.alloc, style, citation, Some(bibliography))?)
+    let is_english = forms
+        .value("default-locale")
+        .unwrap_or("en")
+        .starts_with("en");
+    let style = ListStyle::new(forms.alloc, style, citation, Some(bibliography))?;
+    Ok(style.with_english(is_english))
 }
 
 /// Fails unless the first of the forms is the word of a layout, and the only one.

@@ -238,8 +238,9 @@ fn add_answer(work: &mut Work, variable: Variable, forms: &Forms<'_>) -> Result<
 
 /// The entry of these forms.
 pub fn entry(forms: &Forms<'_>) -> Result<Work, Fault> {
-    forms.ensure_attributes(&["type no-memory-for"])?;
+    forms.ensure_attributes(&["type english no-memory-for"])?;
     let mut work = Work::new(forms.alloc);
+    work.english = forms.boolean("english")?;
     work.refused = forms.choice("no-memory-for")?;
     if let Some(kinds) = forms.choices("type")? {
         work.kinds = kinds;

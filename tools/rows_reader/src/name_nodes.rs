@@ -3,7 +3,9 @@
 
 use crate::fault::Fault;
 use crate::form::{Form, Forms};
-use crate::nodes::{AFFIXES, FORMATTING, affixes, formatting, nodes, variableless_label};
+use crate::nodes::{
+    AFFIXES, CASED, FORMATTING, affixes, cased_affixes, formatting, nodes, variableless_label,
+};
 use csl::style::{
     EtAl, InheritableNameOptions, Name, NamePart, Names, NamesChild, OtherTerm, Substitute,
 };
@@ -39,11 +41,11 @@ pub fn name_options(
 }
 
 fn name_part(forms: &Forms<'_>) -> Result<NamePart, Fault> {
-    forms.ensure_attributes(&[FORMATTING, AFFIXES])?;
+    forms.ensure_attributes(&[FORMATTING, CASED])?;
     Ok(NamePart {
         name: forms.named(forms.only_word()?)?,
         formatting: formatting(forms)?,
-        affixes: affixes(forms)?,
+        affixes: cased_affixes(forms)?,
     })
 }
 

@@ -12,6 +12,7 @@ use csl::style::{
     Layout, LayoutRenderingElement, Number, RenderingElement, TermForm, Text, TextTarget, Variable,
     VariablelessLabel,
 };
+use csl_finish::TextCase;
 
 /// The attributes of a formatting.
 pub const FORMATTING: &str = "font-style font-variant font-weight text-decoration vertical-align";
@@ -30,11 +31,30 @@ pub fn formatting(forms: &Forms<'_>) -> Result<Formatting, Fault> {
     })
 }
 
+/// The attributes of affixes of a node with a case.
+pub const CASED: &str = "prefix suffix text-case";
+
 /// The affixes among the attributes.
 pub fn affixes(forms: &Forms<'_>) -> Result<Affixes, Fault> {
     let prefix = forms.text("prefix")?;
     let suffix = forms.text("suffix")?;
     Ok(Affixes { prefix, suffix })
+}
+
+/// The affixes with the marks of the case among the attributes, if there is one, for a list.
+pub fn cased_affixes(forms: &Forms<'_>) -> Result<Affixes, Fault> {
+    let Some(case) = forms.choice::<TextCase>("text-case")? else {
+        return affixes(forms);
+    };
+    let mut prefix = forms.text("prefix")?.unwrap_or(String::new(forms.alloc));
+    prefix.push(case.start_mark())?;
+    let mut suffix = String::new(forms.alloc);
+    suffix.push(case.end_mark())?;
+    suffix.push_str(forms.value("suffix").unwrap_or(""))?;
+    Ok(Affixes {
+        prefix: Some(prefix),
+        suffix: Some(suffix),
+    })
 }
 
 fn text_target(forms: &Forms<'_>) -> Result<TextTarget, Fault> {
@@ -60,13 +80,13 @@ fn text_target(forms: &Forms<'_>) -> Result<TextTarget, Fault> {
 
 fn text(forms: &Forms<'_>) -> Result<Text, Fault> {
     let own = "variable macro term value form plural quotes strip-periods display";
-    forms.ensure_attributes(&[own, FORMATTING, AFFIXES])?;
+    forms.ensure_attributes(&[own, FORMATTING, CASED])?;
     forms.ensure_lists("")?;
     let target = text_target(forms)?;
     Ok(Text {
         target,
         formatting: formatting(forms)?,
-        affixes: affixes(forms)?,
+        affixes: cased_affixes(forms)?,
         display: forms.choice("display")?,
         quotes: forms.is_true("quotes")?,
         strip_periods: forms.is_true("strip-periods")?,
@@ -74,27 +94,27 @@ fn text(forms: &Forms<'_>) -> Result<Text, Fault> {
 }
 
 fn number(forms: &Forms<'_>) -> Result<Number, Fault> {
-    forms.ensure_attributes(&["form display", FORMATTING, AFFIXES])?;
+    forms.ensure_attributes(&["form display", FORMATTING, CASED])?;
     let mut number = Number::new(forms.named(forms.only_word()?)?);
     if let Some(form) = forms.choice("form")? {
         number.form = form;
     }
     number.formatting = formatting(forms)?;
-    number.affixes = affixes(forms)?;
+    number.affixes = cased_affixes(forms)?;
     number.display = forms.choice("display")?;
     Ok(number)
 }
 
 /// A label without its variable.
 pub fn variableless_label(forms: &Forms<'_>) -> Result<VariablelessLabel, Fault> {
-    forms.ensure_attributes(&["form plural strip-periods", FORMATTING, AFFIXES])?;
+    forms.ensure_attributes(&["form plural strip-periods", FORMATTING, CASED])?;
     Ok(VariablelessLabel {
         form: forms.choice("form")?.unwrap_or(TermForm::Long),
         plural: forms
             .choice("plural")?
             .unwrap_or(LabelPluralize::Contextual),
         formatting: formatting(forms)?,
-        affixes: affixes(forms)?,
+        affixes: cased_affixes(forms)?,
         strip_periods: forms.is_true("strip-periods")?,
     })
 }
@@ -107,13 +127,13 @@ fn label(forms: &Forms<'_>) -> Result<Label, Fault> {
 
 /// The date part of a name.
 fn date_part(name: &str, forms: &Forms<'_>) -> Result<DatePart, Fault> {
-    forms.ensure_attributes(&["form strip-periods", FORMATTING, AFFIXES])?;
+    forms.ensure_attributes(&["form strip-periods", FORMATTING, CASED])?;
     forms.ensure_lists("")?;
     Ok(DatePart {
         name: forms.named(name)?,
         form: forms.choice("form")?,
         formatting: formatting(forms)?,
-        affixes: affixes(forms)?,
+        affixes: cased_affixes(forms)?,
         strip_periods: forms.is_true("strip-periods")?,
     })
 }

@@ -19,6 +19,8 @@ pub struct Work {
     pub names: Vec<(NameVariable, Vec<Person>)>,
     pub dates: Vec<(DateVariable, Date)>,
     pub kinds: Vec<Kind>,
+    /// Whether it is English, if it says so.
+    pub english: Option<bool>,
     /// A variable whose lookup runs out of memory.
     pub refused: Option<StandardVariable>,
 }
@@ -33,6 +35,7 @@ impl Work {
             names: Vec::new(alloc),
             dates: Vec::new(alloc),
             kinds: Vec::new(alloc),
+            english: None,
             refused: None,
         }
     }
@@ -136,7 +139,7 @@ impl EntryLike for Work {
     }
 
     fn is_english(&self) -> Option<bool> {
-        None
+        self.english
     }
 
     fn key(&self) -> CowStr<'_, Global> {

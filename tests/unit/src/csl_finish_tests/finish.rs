@@ -186,8 +186,22 @@ fn other_spaces_stay(rt: HostRuntime) {
     assert_rows(&rt, rt.alloc(), Language::Italian, rows);
 }
 
+/// A mark that closes a German quote opens an English one: before a letter, after a space, a bracket
+/// or a mark that opens a quote.
+static GERMAN: [(&str, &str); 6] = [
+    ("„Über „Moos““|.", "„Über ‚Moos‘“|."),
+    (
+        "„|“Slow towns” win a prize|“",
+        "„|‚Slow towns‘ win a prize|“",
+    ),
+    ("„Moss and “fern”“|.", "„Moss and ‚fern‘“|."),
+    ("„Moss (“1st” ed.)“|.", "„Moss (‚1st‘ ed.)“|."),
+    ("„Moos“ und „Farn“", "„Moos“ und „Farn“"),
+    ("„Moos|“ |2014", "„Moos|“ |2014"),
+];
+
 #[test]
 fn german_quotes_nest(rt: HostRuntime) {
-    let rows: &[(&str, &str)] = &[("„Über „Moos““|.", "„Über ‚Moos‘“|.")];
+    let rows: &[(&str, &str)] = &GERMAN;
     assert_rows(&rt, rt.alloc(), Language::German, rows);
 }

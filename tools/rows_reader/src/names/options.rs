@@ -9,6 +9,7 @@ use csl::style::{
     NameAnd, NameAsSortOrder, NameForm, NamePartName, OrdinalMatch, PageRangeFormat, Scope,
     TermForm, TestPosition, TextDecoration, VerticalAlign,
 };
+use csl_finish::TextCase;
 use csl_list::{
     CitePurpose, Collapse, GivenNameRule, ListedWorks, SecondFieldAlign, SubstituteRule,
 };
@@ -26,6 +27,10 @@ named! {
     }
     Season { "spring" Spring, "summer" Summer, "autumn" Autumn, "winter" Winter }
     NameForm { "long" Long, "short" Short, "count" Count }
+    TextCase {
+        "lowercase" Lowercase, "uppercase" Uppercase, "capitalize-first" CapitalizeFirst,
+        "capitalize-all" CapitalizeAll, "title" TitleCase, "sentence" SentenceCase
+    }
     NameAnd { "text" Text, "symbol" Symbol }
     NameAsSortOrder { "first" First, "all" All }
     DelimiterBehavior {

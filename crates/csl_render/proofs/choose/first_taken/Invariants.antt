@@ -1,4 +1,4 @@
-use Rattle.std.proofs.Common.{◌≡◌, drop, map, option_map}
+use Rattle.std.proofs.Common.{◌≡◌, ◌+◌, drop, map, option_map}
 use Rattle.csl_elements.specs.declared.element.Choose.{out-Choose}
 use Rattle.csl_elements.specs.View.{view_nodes, view_branch, view_choose, branches_of}
 use Rattle.csl_context.specs.Context.{render_input}
@@ -10,4 +10,7 @@ abbrev pub invariant-loop-branch : goal.invariant-loop-branch
 invariant-loop-branch g l =
     let choose = out-Choose l.choose in
     let w = render_input g.T.EntryLike.answers l.ctx in
-    chosen_nodes w l.ctx.state (branches_of (map view_branch (drop l.branch-index l.branch-items)) (option_map (λ v. view_nodes v.items) choose.otherwise)) ≡ chosen_children w l.ctx.state (view_choose l.choose)
+    record {
+      counted : l.before ≡ l.branch-index + 1;
+      taken : chosen_nodes w l.ctx.state (branches_of (map view_branch (drop l.branch-index l.branch-items)) (option_map (λ v. view_nodes v.items) choose.otherwise)) ≡ chosen_children w l.ctx.state (view_choose l.choose);
+    }

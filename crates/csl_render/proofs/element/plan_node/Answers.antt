@@ -15,4 +15,4 @@ returns g c =
     let n = view_node c.args.node.now in
     let end = c.node_info.new.run in
     let found = subst (λ r. Adds (IsInfo (render_input answers r.now) (dry_now r.now) (expand (macro_env r.now.style) n) c.in_ok-info.info) r end) c.new-run.ensures c.in_ok-info.ensures in
-    asked answers now (expand (macro_env now.style) n) c.in_ok-info.info end c.new.result found (ap dry_view c.new.ensures.at ∙ c.of-at.ensures) c.new.ensures.answer c.new.ensures.author (c.new.ensures.inside ∙ c.into_items.ensures)
+    asked answers now (expand (macro_env now.style) n) c.in_ok-info.info end c.new.result found (ap dry_view c.new.ensures.at ∙ c.of-at.ensures) c.new.ensures.flags c.new.ensures.author c.new.ensures.branch (c.new.ensures.inside ∙ c.into_items.ensures)

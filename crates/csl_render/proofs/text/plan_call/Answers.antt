@@ -19,9 +19,9 @@ returns g c d =
     let fs = expand_nodes (macro_env now.style) ns in
     let f = expanded_macro fs d in
     let nodes = c.in_ok-info.info in
-    let call = c.with_answer-call in
+    let call = c.with_flags-call in
     let start : Run g.row.T.Denot = record { now = now; items = [] } in
     let end = c.nodes_info.new.run in
     let found = subst (λ r. Adds (IsInfoOfNodes (render_input answers r.now) (dry_now r.now) (expand_nodes (macro_env r.now.style) ns) nodes) r end) c.new-run.ensures c.in_ok-info.ensures in
-    let called = adds_as (IsInfoOfNodes w at fs nodes) (IsInfo w at f call.result) start end (λ is h. around w at nodes call.result call.ensures.read call.ensures.author fs (λ i. macro_info (without_group_flag i)) is h (call.ensures.answer ∙ c.answer_of_call.ensures)) found in
-    asked answers now f call.result end c.new.result called (ap dry_view c.new.ensures.at ∙ c.of-at.ensures) c.new.ensures.answer c.new.ensures.author (c.new.ensures.inside ∙ c.into_items.ensures)
+    let called = adds_as (IsInfoOfNodes w at fs nodes) (IsInfo w at f call.result) start end (λ is h. around w at nodes call.result call.ensures.read call.ensures.author fs (λ i. macro_info (without_group_flag i)) is h (call.ensures.answer ∙ c.of_macro.ensures)) found in
+    asked answers now f call.result end c.new.result called (ap dry_view c.new.ensures.at ∙ c.of-at.ensures) c.new.ensures.flags c.new.ensures.author c.new.ensures.branch (c.new.ensures.inside ∙ c.into_items.ensures)

@@ -20,4 +20,4 @@ returns g c =
     let read = c.variable_of_date.result in
     leaf g.T.EntryLike.answers run (expanded now.style (date n)) c.new.result c.new.ensures.author (λ s asks. sym (no_date_shows now.special (not s.first_date_seen) n.variable asks)) (λ s alike.
     let known = subst (λ x. AreAlikeOn (input now) x (dry_now now) s) c.new.ensures.read alike in
-    c.new.ensures.answer ∙ c.in_ok-answer.ensures ∙ ap (λ b. date_info (input b) b.state n) c.context.ensures ∙ date_info_same (input now) now.state s known.0 n.variable (date_read now.state s read known.1 n.variable c.variable_of_date.ensures))
+    c.new.ensures.answer ∙ c.in_ok-answer.ensures ∙ ap (λ b. date_info (input b) b.state n) c.context.ensures ∙ date_info_same (input now) now.state s known.0 n.variable (date_read now.state s read known.1 n.variable c.variable_of_date.ensures)) (λ s. tt)

@@ -21,4 +21,4 @@ returns g c =
     let read = subst (Has c.with-read.result) c.from.ensures (has_more c.new.result c.with-read.result c.from.result c.with-read.ensures) in
     leaf g.T.EntryLike.answers run (expanded now.style (label v l)) c.new-2.result c.new-2.ensures.author (λ s asks. refl) (λ s alike.
     let same = alike.1 (variable_of v) (subst (λ set. Has set (variable_of v)) (sym c.new-2.ensures.read) read) in
-    c.new-2.ensures.answer ∙ c.in_ok-answer.ensures ∙ ap (λ b. label_info (input b) b.state v l) c.context.ensures ∙ label_info_same (input now) now.state s v l same)
+    c.new-2.ensures.answer ∙ c.in_ok-answer.ensures ∙ ap (λ b. label_info (input b) b.state v l) c.context.ensures ∙ label_info_same (input now) now.state s v l same) (λ s. tt)

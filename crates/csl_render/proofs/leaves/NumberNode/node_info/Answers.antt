@@ -21,4 +21,4 @@ returns g c =
     let read = subst (Has c.with-read.result) c.from.ensures (has_more c.new.result c.with-read.result c.from.result c.with-read.ensures) in
     leaf g.T.EntryLike.answers run (expanded now.style (number n)) c.new-2.result c.new-2.ensures.author (λ s asks. sym (no_number_shows now.special n.variable asks)) (λ s alike.
     let same = alike.1 (variable_of n.variable) (subst (λ set. Has set (variable_of n.variable)) (sym c.new-2.ensures.read) read) in
-    c.new-2.ensures.answer ∙ c.in_ok-answer.ensures ∙ ap (λ b. number_info (input b) b.state n) c.context.ensures ∙ number_info_same (input now) now.state s n same)
+    c.new-2.ensures.answer ∙ c.in_ok-answer.ensures ∙ ap (λ b. number_info (input b) b.state n) c.context.ensures ∙ number_info_same (input now) now.state s n same) (λ s. tt)

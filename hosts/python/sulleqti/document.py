@@ -1,4 +1,6 @@
 """A CSL file as a tree whose nodes know their lines."""
+from __future__ import annotations
+
 import re
 from typing import Iterator, NoReturn, cast
 from xml.etree.ElementTree import Element

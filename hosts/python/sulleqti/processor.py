@@ -1,0 +1,208 @@
+"""A processor: the program `csl_serve` at work (docs/HOSTS.md)."""
+from __future__ import annotations
+
+import collections
+import dataclasses
+import itertools
+import json
+import os
+import shutil
+import subprocess
+import threading
+from typing import Any, Deque, List, Sequence, Tuple, Union
+
+from sulleqti.attributes import Tree, rendered
+from sulleqti.document import Refused
+from sulleqti.locales import locale_of
+from sulleqti.styles import Style
+from sulleqti.works import Work, works_of
+
+# The most lines of its standard error that are told, and the most works of a request.
+MOST_LINES, MOST_WORKS = 20, 1_000
+FORMATS = ["plain", "html", "tree"]
+
+
+class ServerEnded(Exception):
+    """`csl_serve` has ended, or was ended because it did not answer in time. Nothing starts it
+    again."""
+
+
+@dataclasses.dataclass(frozen=True)
+class Content:
+    """What is rendered: as plain text, as HTML, and as the tree of docs/WIRE.md."""
+
+    text: str
+    html: str
+    tree: List[Tree]
+
+
+class Processor:
+    """A `csl_serve`: the program or command that is given, or that of the variable SULLEQTI_SERVE,
+    or the one on PATH. A request may take `timeout` seconds. Threads may share it: it has one
+    request on its way at a time."""
+
+    def __init__(self, program: Union[str, Sequence[str], None] = None,
+                 timeout: float = 60.0) -> None:
+        found = program or os.environ.get("SULLEQTI_SERVE") or shutil.which("csl_serve")
+        if not found:
+            raise FileNotFoundError("there is no csl_serve on PATH, and SULLEQTI_SERVE names none")
+        self.timeout, self.is_late, self.names = timeout, False, itertools.count(1)
+        self.lock, self.said = threading.Lock(), collections.deque(maxlen=MOST_LINES)
+        self.process = subprocess.Popen([found] if isinstance(found, str) else list(found),
+                                        stdin=subprocess.PIPE, stdout=subprocess.PIPE,
+                                        stderr=subprocess.PIPE)
+        self.drain = threading.Thread(target=self.read_faults, args=(self.said,), daemon=True)
+        self.drain.start()
+
+    def __enter__(self) -> Processor:
+        return self
+
+    def __exit__(self, *_: object) -> None:
+        self.close()
+
+    def read_faults(self, said: Deque[bytes]) -> None:
+        """Keeps the last lines of standard error."""
+        said.extend(self.process.stderr)
+
+    def close(self) -> None:
+        """Ends the program."""
+        self.process.kill()
+        self.process.wait()
+        self.drain.join()
+        for stream in (self.process.stdin, self.process.stdout, self.process.stderr):
+            # (what is still on its way to it is lost)
+            try:
+                stream.close()
+            except OSError:
+                pass
+
+    def end_late(self) -> None:
+        """Ends the program, which has not answered in time."""
+        self.is_late = True
+        self.process.kill()
+
+    def answer(self, line: bytes) -> bytes:
+        """The line that answers a line, or less if there is none."""
+        timer = threading.Timer(self.timeout, self.end_late)
+        timer.start()
+        try:
+            self.process.stdin.write(line)
+            self.process.stdin.flush()
+            return self.process.stdout.readline()
+        except (OSError, ValueError):
+            return b""
+        except BaseException:
+            # (or the next request would get the answer to this one)
+            self.process.kill()
+            raise
+        finally:
+            timer.cancel()
+
+    def ask(self, op: str, **members: Any) -> Any:
+        """The answer to a request (docs/HOSTS.md). It raises `Refused` with the place in the
+        request if that is refused."""
+        line = json.dumps({"op": op, **members}).encode() + b"\n"
+        with self.lock:
+            answer = self.answer(line)
+            if not answer.endswith(b"\n"):
+                self.close()
+                status, told = self.process.returncode, b"".join(self.said).decode(errors="replace")
+                raise ServerEnded(f"csl_serve did not answer in {self.timeout:g} seconds"
+                                  if self.is_late else f"csl_serve ended with {status}: {told}")
+        return answer_of(json.loads(answer))
+
+    def style(self, path: str, locale: str | None = None) -> ProcessorStyle:
+        """The style of a file, in a language as `en-GB`, or that of a locale file, or its own. It
+        raises `Refused` with the place in the file if that is no style that the library takes."""
+        source, name = Style(path, [locale_of(locale)] if locale else []), f"{next(self.names)}"
+        try:
+            self.ask("style", name=name, style=rendered(source.tree["style"]))
+        except RefusedRequest as why:
+            raise Refused(f"{source.place(why.at)}: {why.message}") from None
+        return ProcessorStyle(self, name, source)
+
+
+class RefusedRequest(Refused):
+    """A request or an item of one is refused, at a JSON Pointer into the request."""
+
+    def __init__(self, error: Tree) -> None:
+        super().__init__(f"{error['at']}: {error['message']}")
+        self.at, self.message, self.code = error["at"], error["message"], error["code"]
+
+
+def answer_of(reply: Tree) -> Any:
+    """The answer of a reply. A refusal is raised."""
+    if "error" in reply:
+        raise RefusedRequest(reply["error"])
+    return reply["ok"]
+
+
+class ProcessorStyle:
+    """A style of a processor. `source` is what was read of its file; `source.left` counts what is
+    left out of it."""
+
+    def __init__(self, processor: Processor, name: str, source: Style) -> None:
+        self.processor, self.name, self.source = processor, name, source
+
+    def works(self, items: Union[str, Sequence[Any]]) -> Works:
+        """The works of a file of CSL-JSON, or of a list of its items."""
+        return Works(self, items)
+
+    def drop(self) -> None:
+        """Forgets the style: its name is unknown to the program from now on."""
+        self.processor.ask("drop", styles=[self.name])
+
+
+class Works:
+    """Works in a style, by their `id`. What is left out of them is in `warnings`, a line each with
+    its place, and in `left`, which counts it."""
+
+    def __init__(self, style: ProcessorStyle, items: Union[str, Sequence[Any]]) -> None:
+        self.style, self.left = style, collections.Counter()
+        self.prefix = f"{next(style.processor.names)}:"
+        works, self.warnings = works_of(items, self.left)
+        self.ids: List[str] = []
+        for start in range(0, len(works), MOST_WORKS):
+            self.send(works[start:start + MOST_WORKS])
+
+    def send(self, works: List[Work]) -> None:
+        """Keeps works. One that is refused is told and left out."""
+        sent = [{"name": self.prefix + it.id, "work": it.tree} for it in works]
+        for work, reply in zip(works, self.style.processor.ask("works", works=sent)):
+            try:
+                answer_of(reply)
+                self.ids.append(work.id)
+            except RefusedRequest as why:
+                self.warnings.append(f"{work.place}: {work.id}: {why.message}")
+
+    def asked(self, op: str, list_name: str, id: str, members: Tree, **more: Any) -> Any:
+        """The answer about one of the works."""
+        item = {"work": self.prefix + id, **members}
+        answers = self.style.processor.ask(op, style=self.style.name, **{list_name: [item]}, **more)
+        return answer_of(answers[0])
+
+    def drop(self) -> None:
+        """Forgets the works."""
+        self.style.processor.ask("drop", works=[self.prefix + it for it in self.ids])
+
+    def cite(self, id: str, locator: Tuple[str, str] | None = None, **cite: Any) -> Content:
+        """The cite of a work, alone, without the texts around it. What `cite` has is as in
+        docs/WIRE.md, as `position="ibid"` or `year_suffix="a"`."""
+        found = {name.replace("_", "-"): value for name, value in cite.items()}
+        if locator:
+            found["locator"] = dict(zip(("label", "value"), locator))
+        return content(self.asked("cite", "cites", id, {"cite": found}, formats=FORMATS))
+
+    def line(self, id: str) -> Content | None:
+        """The line of a work in the bibliography, or `None` if the style has none."""
+        found = self.asked("line", "lines", id, {}, formats=FORMATS)
+        return content(found) if found else None
+
+    def sort_key(self, id: str, **source: str) -> str:
+        """The key that works are sorted by: of `macro` or `variable`."""
+        return self.asked("sort-key", "keys", id, source)
+
+
+def content(found: Tree) -> Content:
+    """A content."""
+    return Content(found["plain"], found["html"], found["tree"])
