@@ -145,7 +145,19 @@ fn options_of_bibliographies(rt: HostRuntime) {
 }
 
 /// Styles with their options, and the options that are read.
-static STYLES: [(&str, &str); 3] = [
+static STYLES: [(&str, &str); 6] = [
+    (
+        r#"{"style": {}, "class": "in-text"}"#,
+        "||;; None None None None; 5; false false ByCite false / |;; false None 1 1",
+    ),
+    (
+        r#"{"style": {}, "class": "note"}"#,
+        "||;; None None None None; 5; false false ByCite false; capital / |;; false None 1 1",
+    ),
+    (
+        r#"{"style": {}, "class": "note", "citation": {"layout": {"suffix": "."}}}"#,
+        "|.|;; None None None None; 5; false false ByCite false; capital / |;; false None 1 1",
+    ),
     (
         r#"{"style": {}}"#,
         "||;; None None None None; 5; false false ByCite false / |;; false None 1 1",

@@ -71,6 +71,9 @@ fn citation_text(rt: &impl Abort, alloc: Global, options: &CitationOptions) -> S
         options.adds_year_suffix
     );
     push(rt, &mut text, more.expect(rt, "memory").as_str());
+    if options.begins_with_capital {
+        push(rt, &mut text, "; capital");
+    }
     text
 }
 
