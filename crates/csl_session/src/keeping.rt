@@ -8,8 +8,10 @@ use crate::replies::outcome_value;
 use crate::session::Session;
 use csl::Style;
 use csl_common::Memory;
-use csl_wire::{Code, Form, Reader, Step, WireError, style_of, within, word_of};
+use csl_list::ListStyle;
+use csl_wire::{Code, Form, Reader, Step, WireError, within, word_of};
 use csl_wire_cite::entry_of;
+use csl_wire_list::list_style_in;
 use serde_json::{Map, Value, json};
 use std::alloc::Global;
 
@@ -27,13 +29,18 @@ fn count_of_locales(value: &Value) -> usize {
     }
 }
 
-/// A style within the limits.
-fn style_within(alloc: Global, value: &Value, limits: SessionLimits) -> Result<Style, WireError> {
-    if count_of_locales(value) > limits.locales {
-        let reason = "the style has more locales than are allowed";
-        return Err(WireError::of(alloc, Code::TooLarge, reason));
+/// The refusal of a style that is too large.
+fn too_large(alloc: Global, reason: &'static str) -> WireError {
+    WireError::of(alloc, Code::TooLarge, reason).after(Step::Member("style"))
+}
+
+/// A style with its options, among the members of a request, within the limits.
+fn style_within(form: Form<'_>, limits: SessionLimits) -> Result<ListStyle, WireError> {
+    let alloc = form.reader.alloc;
+    if form.member("style").map_or(0, count_of_locales) > limits.locales {
+        return Err(too_large(alloc, "the style has more locales than are allowed"));
     }
-    let style = style_of(alloc, value, limits.read)?;
+    let style = list_style_in(form, limits.options())?;
     let is_within = match limits.style {
         Some(most) => style.all_within(alloc, most.rendered, most.size, most.depth),
         None => Ok(true),
@@ -42,8 +49,7 @@ fn style_within(alloc: Global, value: &Value, limits: SessionLimits) -> Result<S
         Ok(true) => Ok(style),
         Ok(false) => {
             drop(style);
-            let reason = "the style renders more than is allowed";
-            Err(WireError::of(alloc, Code::TooLarge, reason))
+            Err(too_large(alloc, "the style renders more than is allowed"))
         }
         Err(_) => {
             drop(style);
@@ -67,6 +73,18 @@ fn counted_bytes(alloc: Global, name: &str, value: &Value) -> Result<u64, Memory
     let text = value.to_string(alloc)?;
     let bytes = (text.len() as u64).saturating_add(name.len() as u64);
     Ok(bytes.saturating_add(BESIDE))
+}
+
+/// The bytes of the texts of the options of a style, without spaces.
+fn option_bytes(form: Form<'_>) -> Result<u64, Memory> {
+    let mut bytes: u64 = 0;
+    for name in ["citation", "bibliography"] {
+        if let Some(options) = form.member(name) {
+            let text = options.to_string(form.reader.alloc)?;
+            bytes = bytes.saturating_add(text.len() as u64);
+        }
+    }
+    Ok(bytes)
 }
 
 /// The names that a list has.
@@ -115,10 +133,10 @@ impl Session {
         };
         let bytes = counted_bytes(alloc, name.as_str(), value)?;
         let locales = (count_of_locales(value) as u64).saturating_mul(LOCALE);
-        let bytes = bytes.saturating_add(locales);
-        let read = style_within(alloc, value, self.limits);
-        let style = within(Step::Member("style"), read)?;
-        match style_answer(alloc, &style) {
+        let options = option_bytes(form)?;
+        let bytes = bytes.saturating_add(locales).saturating_add(options);
+        let style = style_within(form, self.limits)?;
+        match style_answer(alloc, style.style()) {
             Ok(answer) => match self.styles.put(name, style, bytes) {
                 Ok(()) => Ok(answer),
                 Err(refused) => Err(refusal_of(alloc, refused)),
