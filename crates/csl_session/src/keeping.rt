@@ -35,9 +35,13 @@ fn too_large(alloc: Global, reason: &'static str) -> WireError {
 }
 
 /// A style with its options, among the members of a request, within the limits.
-fn style_within(form: Form<'_>, limits: SessionLimits) -> Result<ListStyle, WireError> {
+fn style_within(
+    form: Form<'_>,
+    value: &Value,
+    limits: SessionLimits,
+) -> Result<ListStyle, WireError> {
     let alloc = form.reader.alloc;
-    if form.member("style").map_or(0, count_of_locales) > limits.locales {
+    if count_of_locales(value) > limits.locales {
         return Err(too_large(alloc, "the style has more locales than are allowed"));
     }
     let style = list_style_in(form, limits.options())?;
@@ -75,16 +79,25 @@ fn counted_bytes(alloc: Global, name: &str, value: &Value) -> Result<u64, Memory
     Ok(bytes.saturating_add(BESIDE))
 }
 
-/// The bytes of the texts of the options of a style, without spaces.
-fn option_bytes(form: Form<'_>) -> Result<u64, Memory> {
-    let mut bytes: u64 = 0;
-    for name in ["citation", "bibliography"] {
-        if let Some(options) = form.member(name) {
-            let text = options.to_string(form.reader.alloc)?;
-            bytes = bytes.saturating_add(text.len() as u64);
+/// The bytes of the text of a member without spaces, if it is there.
+fn member_bytes(form: Form<'_>, name: &str) -> Result<u64, Memory> {
+    match form.member(name) {
+        Some(value) => {
+            let text = value.to_string(form.reader.alloc)?;
+            Ok(text.len() as u64)
         }
+        None => Ok(0),
     }
-    Ok(bytes)
+}
+
+/// What a style counts that is kept by a name, with its options.
+fn style_bytes(form: Form<'_>, name: &str, style: &Value) -> Result<u64, Memory> {
+    let bytes = counted_bytes(form.reader.alloc, name, style)?;
+    let locales = (count_of_locales(style) as u64).saturating_mul(LOCALE);
+    let citation = member_bytes(form, "citation")?;
+    let bibliography = member_bytes(form, "bibliography")?;
+    let options = citation.saturating_add(bibliography);
+    Ok(bytes.saturating_add(locales).saturating_add(options))
 }
 
 /// The names that a list has.
@@ -131,11 +144,8 @@ impl Session {
         let Some(value) = form.member("style") else {
             return Err(form.missing("style"));
         };
-        let bytes = counted_bytes(alloc, name.as_str(), value)?;
-        let locales = (count_of_locales(value) as u64).saturating_mul(LOCALE);
-        let options = option_bytes(form)?;
-        let bytes = bytes.saturating_add(locales).saturating_add(options);
-        let style = style_within(form, self.limits)?;
+        let bytes = style_bytes(form, name.as_str(), value)?;
+        let style = style_within(form, value, self.limits)?;
         match style_answer(alloc, style.style()) {
             Ok(answer) => match self.styles.put(name, style, bytes) {
                 Ok(()) => Ok(answer),
