@@ -1,4 +1,5 @@
 //! A kept work, lent to a list.
+//! Definitions: crates/csl_entry/specs/Snapshot.antt.
 
 ghost use Rattle.std.specs.Prelude.{string_bytes};
 ghost use Rattle.csl_entry.specs.Snapshot.{snapshot_answers};
