@@ -2,6 +2,7 @@
 
 use crate::limits::SessionLimits;
 use csl_wire::names;
+use csl_wire_list::DocumentLimits;
 use csl_wire_reply::{put, put_number, put_text};
 use lit_model::Memory;
 use serde_json::{Map, Value};
@@ -48,11 +49,26 @@ fn variables_value(alloc: Global) -> Result<Value, Memory> {
     Ok(Value::Object(members))
 }
 
+/// Sets the limits of documents.
+fn put_document_limits(
+    alloc: Global,
+    members: &mut Map<String, Value>,
+    limits: DocumentLimits,
+) -> Result<(), Memory> {
+    put_number(alloc, members, "citations", limits.citations as u64)?;
+    put_number(alloc, members, "citation-items", limits.cites as u64)?;
+    put_number(alloc, members, "uncited-works", limits.works as u64)?;
+    put_number(alloc, members, "affix", limits.text as u64)?;
+    put_number(alloc, members, "locator", limits.locator as u64)?;
+    Ok(())
+}
+
 /// Limits, by their names.
 fn limits_value(alloc: Global, limits: SessionLimits) -> Result<Value, Memory> {
     let mut members = Map::new(alloc);
     put_number(alloc, &mut members, "style-text", limits.read.text as u64)?;
     put_number(alloc, &mut members, "style-locales", limits.locales as u64)?;
+    put_number(alloc, &mut members, "style-keys", limits.keys as u64)?;
     put_number(alloc, &mut members, "values", limits.values as u64)?;
     put_number(alloc, &mut members, "items", limits.items as u64)?;
     put_number(alloc, &mut members, "work-texts", limits.work.bytes as u64)?;
@@ -68,6 +84,7 @@ fn limits_value(alloc: Global, limits: SessionLimits) -> Result<Value, Memory> {
         "work-persons",
         limits.work.persons as u64,
     )?;
+    put_document_limits(alloc, &mut members, limits.document)?;
     put_number(alloc, &mut members, "rendered", limits.room)?;
     put_number(alloc, &mut members, "reply", limits.reply as u64)?;
     put_number(alloc, &mut members, "kept-styles", limits.kept_styles)?;

@@ -8,8 +8,10 @@ use crate::replies::outcome_value;
 use crate::session::Session;
 use csl::Style;
 use csl_common::Memory;
-use csl_wire::{Code, Form, Reader, Step, WireError, style_of, within, word_of};
+use csl_list::ListStyle;
+use csl_wire::{Code, Form, Reader, Step, WireError, within, word_of};
 use csl_wire_cite::entry_of;
+use csl_wire_list::list_style_in;
 use serde_json::{Map, Value, json};
 use std::alloc::Global;
 
@@ -27,13 +29,22 @@ fn count_of_locales(value: &Value) -> usize {
     }
 }
 
-/// A style within the limits.
-fn style_within(alloc: Global, value: &Value, limits: SessionLimits) -> Result<Style, WireError> {
+/// The refusal of a style that is too large.
+fn too_large(alloc: Global, reason: &'static str) -> WireError {
+    WireError::of(alloc, Code::TooLarge, reason).after(Step::Member("style"))
+}
+
+/// A style with its options, among the members of a request, within the limits.
+fn style_within(
+    form: Form<'_>,
+    value: &Value,
+    limits: SessionLimits,
+) -> Result<ListStyle, WireError> {
+    let alloc = form.reader.alloc;
     if count_of_locales(value) > limits.locales {
-        let reason = "the style has more locales than are allowed";
-        return Err(WireError::of(alloc, Code::TooLarge, reason));
+        return Err(too_large(alloc, "the style has more locales than are allowed"));
     }
-    let style = style_of(alloc, value, limits.read)?;
+    let style = list_style_in(form, limits.options())?;
     let is_within = match limits.style {
         Some(most) => style.all_within(alloc, most.rendered, most.size, most.depth),
         None => Ok(true),
@@ -42,8 +53,7 @@ fn style_within(alloc: Global, value: &Value, limits: SessionLimits) -> Result<S
         Ok(true) => Ok(style),
         Ok(false) => {
             drop(style);
-            let reason = "the style renders more than is allowed";
-            Err(WireError::of(alloc, Code::TooLarge, reason))
+            Err(too_large(alloc, "the style renders more than is allowed"))
         }
         Err(_) => {
             drop(style);
@@ -67,6 +77,27 @@ fn counted_bytes(alloc: Global, name: &str, value: &Value) -> Result<u64, Memory
     let text = value.to_string(alloc)?;
     let bytes = (text.len() as u64).saturating_add(name.len() as u64);
     Ok(bytes.saturating_add(BESIDE))
+}
+
+/// The bytes of the text of a member without spaces, if it is there.
+fn member_bytes(form: Form<'_>, name: &str) -> Result<u64, Memory> {
+    match form.member(name) {
+        Some(value) => {
+            let text = value.to_string(form.reader.alloc)?;
+            Ok(text.len() as u64)
+        }
+        None => Ok(0),
+    }
+}
+
+/// What a style counts that is kept by a name, with its options.
+fn style_bytes(form: Form<'_>, name: &str, style: &Value) -> Result<u64, Memory> {
+    let bytes = counted_bytes(form.reader.alloc, name, style)?;
+    let locales = (count_of_locales(style) as u64).saturating_mul(LOCALE);
+    let citation = member_bytes(form, "citation")?;
+    let bibliography = member_bytes(form, "bibliography")?;
+    let options = citation.saturating_add(bibliography);
+    Ok(bytes.saturating_add(locales).saturating_add(options))
 }
 
 /// The names that a list has.
@@ -113,12 +144,9 @@ impl Session {
         let Some(value) = form.member("style") else {
             return Err(form.missing("style"));
         };
-        let bytes = counted_bytes(alloc, name.as_str(), value)?;
-        let locales = (count_of_locales(value) as u64).saturating_mul(LOCALE);
-        let bytes = bytes.saturating_add(locales);
-        let read = style_within(alloc, value, self.limits);
-        let style = within(Step::Member("style"), read)?;
-        match style_answer(alloc, &style) {
+        let bytes = style_bytes(form, name.as_str(), value)?;
+        let style = style_within(form, value, self.limits)?;
+        match style_answer(alloc, style.style()) {
             Ok(answer) => match self.styles.put(name, style, bytes) {
                 Ok(()) => Ok(answer),
                 Err(refused) => Err(refusal_of(alloc, refused)),

@@ -1,14 +1,16 @@
 //! Requests and replies as JSON (docs/HOSTS.md): a [`Session`] keeps styles and works by names,
-//! and renders cites, lines of a bibliography and sort keys by them. [`serve`] answers a request a
+//! and renders cites, lines of a bibliography, sort keys and whole documents by them. [`serve`] answers a request a
 //! line.
 //!
 //! An error that the docs of a call do not explain means out of memory.
 #![tactic(auto)]
 
 mod asked;
+mod documents;
 mod hello;
 mod keeping;
 mod kept;
+mod lent;
 mod limits;
 mod lines;
 mod op;

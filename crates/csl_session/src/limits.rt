@@ -2,6 +2,7 @@
 
 use csl_wire::{Code, Form, Limits, Step, WireError};
 use csl_wire_cite::WorkLimits;
+use csl_wire_list::{DocumentLimits, OptionLimits};
 use serde_json::Value;
 
 /// How large a style may be when it is rendered, as [`csl::Style::all_within`] counts it.
@@ -24,12 +25,16 @@ pub struct SessionLimits {
     pub style: Option<StyleLimits>,
     /// The most locales of a style.
     pub locales: usize,
+    /// The most keys that a style sorts citations by. It sorts a bibliography by no more.
+    pub keys: usize,
     /// The most values of a line, as its characters `{`, `[`, `,` and `:` count them.
     pub values: usize,
     /// The most items of a request: works, cites, lines or keys. Each has a reply of its own.
     pub items: usize,
     /// How much is read of a work and of a cite.
     pub work: WorkLimits,
+    /// How much is read of a document.
+    pub document: DocumentLimits,
     /// How many bytes one request may render, as [`csl::Renderer::limited`] counts them.
     pub room: u64,
     /// The most bytes of a reply that is no refusal.
@@ -52,9 +57,11 @@ impl SessionLimits {
                 depth: 64,
             }),
             locales: 20,
+            keys: 20,
             values: 1_000_000,
             items: 10_000,
             work: WorkLimits::of_strangers(),
+            document: DocumentLimits::of_strangers(),
             room: 4_000_000,
             reply: 16_000_000,
             kept_styles: 16_000_000,
@@ -68,13 +75,23 @@ impl SessionLimits {
             read: Limits::none(),
             style: None,
             locales: usize::MAX,
+            keys: usize::MAX,
             values: usize::MAX,
             items: usize::MAX,
             work: WorkLimits::none(),
+            document: DocumentLimits::none(),
             room: u64::MAX,
             reply: usize::MAX,
             kept_styles: u64::MAX,
             kept_works: u64::MAX,
+        }
+    }
+
+    /// How much is read of a style with its options.
+    pub(crate) fn options(self) -> OptionLimits {
+        OptionLimits {
+            text: self.read.text,
+            keys: self.keys,
         }
     }
 }

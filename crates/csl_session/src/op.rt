@@ -13,6 +13,8 @@ pub(crate) enum Op {
     Cite,
     /// To render lines of the bibliography.
     Line,
+    /// To render the citations and the bibliography of a document.
+    Document,
     /// To render keys to sort by.
     SortKey,
     /// To know what a style names.
@@ -24,12 +26,13 @@ pub(crate) enum Op {
 }
 
 /// The names of operations.
-pub(crate) static OPS: [(&str, Op); 9] = [
+pub(crate) static OPS: [(&str, Op); 10] = [
     ("hello", Op::Hello),
     ("style", Op::Style),
     ("works", Op::Works),
     ("cite", Op::Cite),
     ("line", Op::Line),
+    ("document", Op::Document),
     ("sort-key", Op::SortKey),
     ("named", Op::Named),
     ("missing-terms", Op::MissingTerms),
@@ -38,13 +41,31 @@ pub(crate) static OPS: [(&str, Op); 9] = [
 
 static HELLO: [&str; 2] = ["id", "op"];
 
-static STYLE: [&str; 4] = ["id", "op", "name", "style"];
+static STYLE: [&str; 7] = [
+    "id",
+    "op",
+    "name",
+    "style",
+    "class",
+    "citation",
+    "bibliography",
+];
 
 static WORKS: [&str; 3] = ["id", "op", "works"];
 
 static CITE: [&str; 6] = ["id", "op", "style", "cites", "formats", "links"];
 
 static LINE: [&str; 6] = ["id", "op", "style", "lines", "formats", "links"];
+
+static DOCUMENT: [&str; 7] = [
+    "id",
+    "op",
+    "style",
+    "citations",
+    "works",
+    "formats",
+    "links",
+];
 
 static SORT_KEY: [&str; 5] = ["id", "op", "style", "keys", "scope"];
 
@@ -61,6 +82,7 @@ impl Op {
             Op::Works => &WORKS,
             Op::Cite => &CITE,
             Op::Line => &LINE,
+            Op::Document => &DOCUMENT,
             Op::SortKey => &SORT_KEY,
             Op::Named | Op::MissingTerms => &FACT,
             Op::Drop => &DROP,

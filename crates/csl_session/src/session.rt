@@ -8,6 +8,7 @@ ghost use Rattle.serde_json.specs.Read.{read};
 ghost use Rattle.csl_session.specs.Replies.{id_of, IsReplyText};
 
 use crate::asked::formats_of;
+use crate::documents::document_value;
 use crate::hello::hello_value;
 use crate::kept::Shelf;
 use crate::limits::{SessionLimits, items_within};
@@ -15,9 +16,10 @@ use crate::op::{OPS, Op};
 use crate::rendering::{Part, item_of, item_value};
 use crate::replies::{outcome_value, reply_text, value_of_bytes};
 use crate::style_facts::{Fact, fact_value};
+use csl::Renderer;
 use csl::style::Scope;
-use csl::{Renderer, Style};
 use csl_common::Memory;
+use csl_list::ListStyle;
 use csl_wire::{Code, Form, Reader, Step, WireError, members_of, within};
 use csl_wire_cite::{WireEntry, entry_of};
 use serde_json::Value;
@@ -27,7 +29,7 @@ use std::alloc::Global;
 #[derive(Drop)]
 pub struct Session {
     pub(crate) limits: SessionLimits,
-    pub(crate) styles: Shelf<Style>,
+    pub(crate) styles: Shelf<ListStyle>,
     pub(crate) works: Shelf<WireEntry>,
 }
 
@@ -53,7 +55,7 @@ impl Session {
     }
 
     /// The style that a request names.
-    fn named_style(&self, form: Form<'_>) -> Result<&Style, WireError> {
+    fn named_style(&self, form: Form<'_>) -> Result<&ListStyle, WireError> {
         let Some(name) = form.word("style")? else {
             return Err(form.missing("style"));
         };
@@ -94,7 +96,7 @@ impl Session {
         let alloc = form.reader.alloc;
         let style = self.named_style(form)?;
         let items = items_within(form, name, self.limits.items)?;
-        let mut renderer = Renderer::new(style).limited(self.limits.room);
+        let mut renderer = Renderer::new(style.style()).limited(self.limits.room);
         let mut outcomes = Vec::with_capacity(alloc, items.len())?;
         for (place, item) in items.iter().enumerate() {
             let made = self.item_value(alloc, &mut renderer, item, part);
@@ -113,13 +115,25 @@ impl Session {
             Op::Works => self.keep_works(form),
             Op::Cite => self.batch(form, "cites", Part::Cite(formats_of(form)?)),
             Op::Line => self.batch(form, "lines", Part::Line(formats_of(form)?)),
+            Op::Document => {
+                let formats = formats_of(form)?;
+                document_value(
+                    self.named_style(form)?,
+                    &self.works,
+                    form,
+                    self.limits,
+                    formats,
+                )
+            }
             Op::SortKey => {
                 let scope = form.choice("scope", &SCOPES)?;
                 let part = Part::Key(scope.unwrap_or(Scope::Bibliography));
                 self.batch(form, "keys", part)
             }
-            Op::Named => fact_value(alloc, self.named_style(form)?, Fact::Named),
-            Op::MissingTerms => fact_value(alloc, self.named_style(form)?, Fact::MissingTerms),
+            Op::Named => fact_value(alloc, self.named_style(form)?.style(), Fact::Named),
+            Op::MissingTerms => {
+                fact_value(alloc, self.named_style(form)?.style(), Fact::MissingTerms)
+            }
             Op::Drop => self.drop_named(form),
         }
     }

@@ -2,7 +2,7 @@
 -- Layout; Sorting): each from the member of its name. One that is absent has CSL's default: a
 -- distance of 1 of lines and of works, a substitute for all names together, and else none. Without
 -- the object all are absent.
-use Rattle.std.specs.Prelude.{◌≡◌, ◌<◌, ℕ, Option, Some, None, map, option_map, unwrap_or, codes, string_bytes}
+use Rattle.std.specs.Prelude.{◌≡◌, ℕ, List, Option, Some, None, map, option_map, unwrap_or, codes, string_bytes}
 use Rattle.serde_json.specs.Data.{Data}
 use Rattle.serde_json.specs.Find.{as_str}
 use Rattle.csl_wire.specs.Reading.{lent, pair_by, member, read_choice, read_flag, read_member, read_number, read_one}

@@ -26,10 +26,9 @@ pub struct WireDocument<'v> {
 }
 
 impl<'v> NamedWork<'v> {
-    /// The refusal of the document for this work, if its name is none of those that are known. The
-    /// place is that where the document names the work first.
-    pub fn unknown(&self, alloc: Global, known: &[&str]) -> WireError {
-        let error = unknown_name(alloc, self.name, known);
+    /// The error of this work, as one of the document: its place is the one where the document names
+    /// the work first.
+    pub fn refused(&self, error: WireError) -> WireError {
         match self.first {
             Mention::Cite { citation, item } => error
                 .after(Step::Member("work"))
@@ -39,6 +38,11 @@ impl<'v> NamedWork<'v> {
                 .after(Step::Member("citations")),
             Mention::Work(place) => error.after(Step::Item(place)).after(Step::Member("works")),
         }
+    }
+
+    /// The refusal of the document for this work, if its name is none of those that are known.
+    pub fn unknown(&self, alloc: Global, known: &[&str]) -> WireError {
+        self.refused(unknown_name(alloc, self.name, known))
     }
 }
 

@@ -3,5 +3,6 @@
 
 mod bounds;
 mod conversation;
+mod documents;
 mod over_lines;
 mod requests;

@@ -124,20 +124,26 @@ pub(crate) fn bibliography_options(rt: &impl Abort, alloc: Global, text: &str) -
     }
 }
 
+/// The options of a style: of its citations, and of its bibliography.
+pub(crate) fn options_text(rt: &impl Abort, alloc: Global, style: &ListStyle) -> String {
+    let mut text = citation_text(rt, alloc, style.citation());
+    if let Some(options) = style.bibliography() {
+        push(rt, &mut text, " / ");
+        push(
+            rt,
+            &mut text,
+            bibliography_text(rt, alloc, options).as_str(),
+        );
+    }
+    text
+}
+
 /// The options that a style of a stranger with its options is read with, or the refusal.
 pub(crate) fn options_of_style(rt: &impl Abort, alloc: Global, text: &str) -> String {
     let value = json(rt, alloc, text);
     match list_style_of(alloc, &value, OptionLimits::of_strangers()) {
         Ok(style) => {
-            let mut text = citation_text(rt, alloc, style.citation());
-            if let Some(options) = style.bibliography() {
-                push(rt, &mut text, " / ");
-                push(
-                    rt,
-                    &mut text,
-                    bibliography_text(rt, alloc, options).as_str(),
-                );
-            }
+            let text = options_text(rt, alloc, &style);
             drop(style);
             text
         }
