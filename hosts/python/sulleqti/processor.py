@@ -9,7 +9,7 @@ import os
 import shutil
 import subprocess
 import threading
-from typing import Any, Deque, List, Sequence, Tuple, Union
+from typing import Any, Deque, Dict, List, Sequence, Tuple, Union
 
 from sulleqti.attributes import Tree, rendered
 from sulleqti.document import Refused
@@ -158,14 +158,14 @@ class ProcessorStyle:
 
 
 class Works:
-    """Works in a style, by their `id`. What is left out of them is in `warnings`, a line each with
-    its place, and in `left`, which counts it."""
+    """Works in a style, by their `id`, as `ids` has them. What is left out of them is in
+    `warnings`, a line each with its place, and in `left`, which counts it."""
 
     def __init__(self, style: ProcessorStyle, items: Union[str, Sequence[Any]]) -> None:
         self.style, self.left = style, collections.Counter()
         self.prefix = f"{next(style.processor.names)}:"
         works, self.warnings = works_of(items, self.left)
-        self.ids: List[str] = []
+        self.ids: Dict[str, Work] = {}
         for start in range(0, len(works), MOST_WORKS):
             self.send(works[start:start + MOST_WORKS])
 
@@ -175,13 +175,13 @@ class Works:
         for work, reply in zip(works, self.style.processor.ask("works", works=sent)):
             try:
                 answer_of(reply)
-                self.ids.append(work.id)
+                self.ids[work.id] = work
             except RefusedRequest as why:
                 self.warnings.append(f"{work.place}: {work.id}: {why.message}")
 
     def asked(self, op: str, list_name: str, id: str, members: Tree, **more: Any) -> Any:
         """The answer about one of the works."""
-        item = {"work": self.prefix + id, **members}
+        item = {"work": f"{self.prefix}{id}", **members}
         answers = self.style.processor.ask(op, style=self.style.name, **{list_name: [item]}, **more)
         return answer_of(answers[0])
 
@@ -227,12 +227,13 @@ class Document:
         `prefix`, a `suffix`, a `purpose` and `hidden`, as in docs/WIRE.md."""
         items = []
         for cite in cites:
-            if cite["id"] not in self.works.ids:
-                raise Refused(f"no work has the `id` {cite['id']}")
+            id = str(cite["id"])
+            if id not in self.works.ids:
+                raise Refused(f"no work has the `id` {id}")
             item = {name: it for name, it in cite.items() if name != "id" and it is not None}
             if "locator" in item:
                 item["locator"] = dict(zip(("label", "value"), item["locator"]))
-            items.append({"work": self.works.prefix + cite["id"], **item})
+            items.append({"work": self.works.prefix + id, **item})
         self.citations.append({"items": items, **({"note-number": note} if note else {})})
         return len(self.citations) - 1
 
@@ -240,7 +241,7 @@ class Document:
         """The citations, and the bibliography, which has the works that are cited, and these."""
         style, prefix = self.works.style, self.works.prefix
         found = style.processor.ask("document", style=style.name, citations=self.citations,
-                                    works=[prefix + it for it in uncited], formats=FORMATS)
+                                    works=[f"{prefix}{it}" for it in uncited], formats=FORMATS)
         listed = found["bibliography"] or {"items": []}
         entries = [Entry(**vars(content(it["content"])), id=it["work"][len(prefix):],
                          first_field=it.get("first-field") and content(it["first-field"]))

@@ -75,7 +75,7 @@ class StandIns(unittest.TestCase):
         with stands_in(answer) as processor:
             document = processor.style(STYLE).document(ITEMS)
             self.assertEqual(document.cite("kwan", locator=("page", "7"), note=2), 0)
-            self.assertEqual(document.citation([{"id": "7", "prefix": "see "}, {"id": "doe"}]), 1)
+            self.assertEqual(document.citation([{"id": 7, "prefix": "see "}, {"id": "doe"}]), 1)
             with self.assertRaisesRegex(sulleqti.Refused, "no work has the `id` roe"):
                 document.cite("roe")
             done = document.render(uncited=["7"])
@@ -101,7 +101,7 @@ class Served(unittest.TestCase):
         """Cites and lines of works, and what is left out of them."""
         with sulleqti.Processor() as processor:
             works = processor.style(STYLE, locale="en-US").works(ITEMS)
-            self.assertEqual((works.ids, len(works.warnings)), (["kwan", "doe", "7"], 4))
+            self.assertEqual((list(works.ids), len(works.warnings)), (["kwan", "doe", "7"], 4))
             self.assertEqual(works.cite("kwan").text, "van der Kwan, Okafor, and ACME, 2014!")
             self.assertEqual(works.line("7").html,
                              '“<span style="font-style: italic;">Line by line</span>')
