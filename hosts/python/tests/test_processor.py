@@ -2,8 +2,11 @@
 SULLEQTI_SERVE or PATH has it."""
 import json
 import os
+import re
 import shutil
+import subprocess
 import sys
+import tempfile
 import threading
 import time
 import unittest
@@ -134,6 +137,20 @@ class Served(unittest.TestCase):
             ("moss", "Kwan. 2014. Moss."), ("roe", "Roe. 2010. Hills.")])
         self.assertEqual(done.looks, {"hanging-indent": True, "line-spacing": 1,
                                       "entry-spacing": 1})
+
+    def test_readme(self):
+        """The last block of README.md, to the letter, over this style and these works."""
+        with open(f"{HERE}/../README.md", encoding="utf-8") as file:
+            block = re.findall("(?s)```python\n(.*?)```", file.read())[-1]
+        with tempfile.TemporaryDirectory() as room:
+            shutil.copy(f"{HERE}/year.csl", f"{room}/apa.csl")
+            shutil.copy(ITEMS, f"{room}/items.json")
+            path = {**os.environ, "PYTHONPATH": os.path.dirname(HERE)}
+            ran = subprocess.run([sys.executable, "-c", block], cwd=room, env=path,
+                                 stdout=subprocess.PIPE, check=True)
+        self.assertEqual(ran.stdout.decode(),
+                         "(van der Kwan, Okafor, ACME 2014: 7) van der Kwan, Okafor, ACME. 2014. "
+                         "Crazy rich moss: a survey.\n")
 
 
 if __name__ == "__main__":
