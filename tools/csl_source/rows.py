@@ -156,7 +156,7 @@ class Rows:
         """What a driver does: the texts around a layout, its options, and the sort keys."""
         for name in LAYOUTS:
             if tree := self.style.tree.get(name):
-                is_note = name == "citation" and self.style.has_notes
+                is_note = name == "citation" and self.style.tree.get("class") == "note"
                 around = [*(["class=note"] if is_note else []),
                           *self.attributes({**tree, **tree["layout"]}, (*TEXTS, *LISTED[name]))]
                 if around:

@@ -7,9 +7,9 @@
 from sulleqti.attributes import Tree, rendered
 from sulleqti.document import Refused
 from sulleqti.locales import locale_of
-from sulleqti.processor import Content, Processor, ServerEnded
+from sulleqti.processor import Content, Document, Entry, Processor, ServerEnded
 from sulleqti.styles import Style
 from sulleqti.works import Work, works_of
 
-__all__ = ["Content", "Processor", "Refused", "ServerEnded", "Style", "Tree", "Work", "locale_of",
-           "rendered", "works_of"]
+__all__ = ["Content", "Document", "Entry", "Processor", "Refused", "ServerEnded", "Style", "Tree",
+           "Work", "locale_of", "rendered", "works_of"]

@@ -9,7 +9,7 @@ import os
 import shutil
 import subprocess
 import threading
-from typing import Any, Deque, List, Sequence, Tuple, Union
+from typing import Any, Deque, Dict, List, Sequence, Tuple, Union
 
 from sulleqti.attributes import Tree, rendered
 from sulleqti.document import Refused
@@ -116,7 +116,7 @@ class Processor:
         raises `Refused` with the place in the file if that is no style that the library takes."""
         source, name = Style(path, [locale_of(locale)] if locale else []), f"{next(self.names)}"
         try:
-            self.ask("style", name=name, style=rendered(source.tree["style"]))
+            self.ask("style", name=name, **rendered(source.tree))
         except RefusedRequest as why:
             raise Refused(f"{source.place(why.at)}: {why.message}") from None
         return ProcessorStyle(self, name, source)
@@ -148,20 +148,24 @@ class ProcessorStyle:
         """The works of a file of CSL-JSON, or of a list of its items."""
         return Works(self, items)
 
+    def document(self, items: Union[str, Sequence[Any]]) -> Document:
+        """A document that may cite these works, which are as those of `works`."""
+        return Document(self.works(items))
+
     def drop(self) -> None:
         """Forgets the style: its name is unknown to the program from now on."""
         self.processor.ask("drop", styles=[self.name])
 
 
 class Works:
-    """Works in a style, by their `id`. What is left out of them is in `warnings`, a line each with
-    its place, and in `left`, which counts it."""
+    """Works in a style, by their `id`, as `ids` has them. What is left out of them is in
+    `warnings`, a line each with its place, and in `left`, which counts it."""
 
     def __init__(self, style: ProcessorStyle, items: Union[str, Sequence[Any]]) -> None:
         self.style, self.left = style, collections.Counter()
         self.prefix = f"{next(style.processor.names)}:"
         works, self.warnings = works_of(items, self.left)
-        self.ids: List[str] = []
+        self.ids: Dict[str, Work] = {}
         for start in range(0, len(works), MOST_WORKS):
             self.send(works[start:start + MOST_WORKS])
 
@@ -171,13 +175,13 @@ class Works:
         for work, reply in zip(works, self.style.processor.ask("works", works=sent)):
             try:
                 answer_of(reply)
-                self.ids.append(work.id)
+                self.ids[work.id] = work
             except RefusedRequest as why:
                 self.warnings.append(f"{work.place}: {work.id}: {why.message}")
 
     def asked(self, op: str, list_name: str, id: str, members: Tree, **more: Any) -> Any:
         """The answer about one of the works."""
-        item = {"work": self.prefix + id, **members}
+        item = {"work": f"{self.prefix}{id}", **members}
         answers = self.style.processor.ask(op, style=self.style.name, **{list_name: [item]}, **more)
         return answer_of(answers[0])
 
@@ -201,6 +205,71 @@ class Works:
     def sort_key(self, id: str, **source: str) -> str:
         """The key that works are sorted by: of `macro` or `variable`."""
         return self.asked("sort-key", "keys", id, source)
+
+
+class Document:
+    """A document, whose citations are added in their order. `works` are the works that it may cite,
+    and `warnings` tells what is left out of them."""
+
+    def __init__(self, works: Works) -> None:
+        self.works, self.warnings, self.left = works, works.warnings, works.left
+        self.citations: List[Tree] = []
+
+    def cite(self, id: str, locator: Tuple[str, str] | None = None, note: int | None = None,
+             **more: Any) -> int:
+        """Adds a citation of one work, and returns its place among the citations. The other words
+        are those of `citation`."""
+        return self.citation([{"id": id, "locator": locator, **more}], note)
+
+    def citation(self, cites: Sequence[Tree], note: int | None = None) -> int:
+        """Adds a citation, in a note of this number if there is one, and returns its place among
+        the citations. A cite has an `id`, and may have a `locator`, as `("page", "7")`, and a
+        `prefix`, a `suffix`, a `purpose` and `hidden`, as in docs/WIRE.md."""
+        items = []
+        for cite in cites:
+            id = str(cite["id"])
+            if id not in self.works.ids:
+                raise Refused(f"no work has the `id` {id}")
+            item = {name: it for name, it in cite.items() if name != "id" and it is not None}
+            if "locator" in item:
+                item["locator"] = dict(zip(("label", "value"), item["locator"]))
+            items.append({"work": self.works.prefix + id, **item})
+        self.citations.append({"items": items, **({"note-number": note} if note else {})})
+        return len(self.citations) - 1
+
+    def render(self, uncited: Sequence[str] = ()) -> RenderedDocument:
+        """The citations, and the bibliography, which has the works that are cited, and these."""
+        style, prefix = self.works.style, self.works.prefix
+        found = style.processor.ask("document", style=style.name, citations=self.citations,
+                                    works=[f"{prefix}{it}" for it in uncited], formats=FORMATS)
+        listed = found["bibliography"] or {"items": []}
+        entries = [Entry(**vars(content(it["content"])), id=it["work"][len(prefix):],
+                         first_field=it.get("first-field") and content(it["first-field"]))
+                   for it in listed.pop("items")]
+        return RenderedDocument([content(it) for it in found["citations"]], entries, listed)
+
+
+@dataclasses.dataclass(frozen=True)
+class Entry(Content):
+    """A work of a bibliography, by its `id`, and the first field of it, if the style sets that
+    apart."""
+
+    id: str
+    first_field: Content | None
+
+
+@dataclasses.dataclass(frozen=True)
+class RenderedDocument:
+    """The citations of a document, its bibliography in order, and how that looks
+    (`hanging-indent`, `second-field-align`, `line-spacing` and `entry-spacing`)."""
+
+    citations: List[Content]
+    bibliography: List[Entry]
+    looks: Tree
+
+    def __getitem__(self, place: int) -> Content:
+        """A citation, by its place."""
+        return self.citations[place]
 
 
 def content(found: Tree) -> Content:

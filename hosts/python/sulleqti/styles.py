@@ -119,7 +119,7 @@ class Style:
         found = given.taken({"version": "text", "class": "class", "default-locale": "text"})
         other = "`default-locale` of another language than the locale"
         self.left[other] += found.get("default-locale", self.language) != self.language
-        self.has_notes = found.get("class") == "note"
+        self.tree.update({name: found[name] for name in ("class",) if name in found})
         pages = given.rest.get("page-range-format", "")
         if pages == "chicago" or pages.startswith("chicago-"):
             given.rest["page-range-format"] = "expanded"

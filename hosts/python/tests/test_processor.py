@@ -1,8 +1,12 @@
 """The processor: over programs that stand in for `csl_serve`, and over `csl_serve` itself, if
 SULLEQTI_SERVE or PATH has it."""
+import json
 import os
+import re
 import shutil
+import subprocess
 import sys
+import tempfile
 import threading
 import time
 import unittest
@@ -11,6 +15,8 @@ import sulleqti
 
 HERE = os.path.dirname(os.path.abspath(__file__))
 STYLE, ITEMS = f"{HERE}/moss.csl", f"{HERE}/items.json"
+WORKS = [("moss", "Moss", "Kwan", 2014), ("roe", "Hills", "Roe", 2010),
+         ("fern", "Ferns", "Kwan", 2016), ("doe", "Lakes", "Doe", 1999)]
 IS_HERE = bool(os.environ.get("SULLEQTI_SERVE") or shutil.which("csl_serve"))
 
 
@@ -59,6 +65,31 @@ class StandIns(unittest.TestCase):
                 processor.style(STYLE)
         self.assertEqual(str(found.exception), f"{STYLE}:27: no")
 
+    def test_document(self):
+        """What is asked and answered of a document."""
+        cite = '{"plain": "p", "html": "h", "tree": []}'
+        answers = ('{"missing-macro": null}', '[{"ok": {}}, {"ok": {}}, {"ok": {}}]',
+                   f'{{"citations": [{cite}, {cite}], "works": ["2:7"], "bibliography": {{"items": '
+                   f'[{{"work": "2:7", "content": {cite}, "first-field": {cite}}}], '
+                   '"line-spacing": 2}}')
+        answer = (f"sys.stderr.write(line); word = line.split('\"')[3]; answers = {answers!r}; "
+                  "place = ['style', 'works', 'document'].index(word); "
+                  "print('{\"ok\": ' + answers[place] + '}')")
+        with stands_in(answer) as processor:
+            document = processor.style(STYLE).document(ITEMS)
+            self.assertEqual(document.cite("kwan", locator=("page", "7"), note=2), 0)
+            self.assertEqual(document.citation([{"id": 7, "prefix": "see "}, {"id": "doe"}]), 1)
+            with self.assertRaisesRegex(sulleqti.Refused, "no work has the `id` roe"):
+                document.cite("roe")
+            done = document.render(uncited=["7"])
+        found = json.loads(processor.said[-1])
+        self.assertEqual((found["citations"], found["works"]), ([
+            {"items": [{"work": "2:kwan", "locator": {"label": "page", "value": "7"}}],
+             "note-number": 2},
+            {"items": [{"work": "2:7", "prefix": "see "}, {"work": "2:doe"}]}], ["2:7"]))
+        self.assertEqual((done[1].html, done.bibliography[0].first_field.text), ("h", "p"))
+        self.assertEqual((done.bibliography[0].id, done.looks), ("7", {"line-spacing": 2}))
+
     def test_nothing(self):
         """No program."""
         with self.assertRaises(FileNotFoundError):
@@ -73,7 +104,7 @@ class Served(unittest.TestCase):
         """Cites and lines of works, and what is left out of them."""
         with sulleqti.Processor() as processor:
             works = processor.style(STYLE, locale="en-US").works(ITEMS)
-            self.assertEqual((works.ids, len(works.warnings)), (["kwan", "doe", "7"], 4))
+            self.assertEqual((list(works.ids), len(works.warnings)), (["kwan", "doe", "7"], 4))
             self.assertEqual(works.cite("kwan").text, "van der Kwan, Okafor, and ACME, 2014!")
             self.assertEqual(works.line("7").html,
                              '“<span style="font-style: italic;">Line by line</span>')
@@ -87,6 +118,39 @@ class Served(unittest.TestCase):
             works.style.drop()
             with self.assertRaisesRegex(sulleqti.Refused, "no style is kept by this name"):
                 works.cite("kwan")
+
+    def test_document(self):
+        """The document of docs/WIRE.md."""
+        items = [{"id": id, "type": "book", "title": title, "author": [{"family": name}],
+                  "issued": {"date-parts": [[year]]}} for id, title, name, year in WORKS]
+        with sulleqti.Processor() as processor:
+            document = processor.style(f"{HERE}/year.csl").document(items)
+            document.citation([{"id": "moss", "prefix": "see "}, {"id": "roe"}])
+            cite = document.cite("moss", locator=("page", "7"), purpose="prose")
+            document.cite("fern", hidden=True)
+            done = document.render(uncited=["doe"])
+        self.assertEqual([it.text for it in done.citations],
+                         ["(see Kwan 2014; Roe 2010)", "Kwan (2014: 7)", ""])
+        self.assertEqual(done[cite].html, "Kwan (2014: 7)")
+        self.assertEqual([(it.id, it.text) for it in done.bibliography], [
+            ("doe", "Doe. 1999. Lakes."), ("fern", "Kwan. 2016. Ferns."),
+            ("moss", "Kwan. 2014. Moss."), ("roe", "Roe. 2010. Hills.")])
+        self.assertEqual(done.looks, {"hanging-indent": True, "line-spacing": 1,
+                                      "entry-spacing": 1})
+
+    def test_readme(self):
+        """The last block of README.md, to the letter, over this style and these works."""
+        with open(f"{HERE}/../README.md", encoding="utf-8") as file:
+            block = re.findall("(?s)```python\n(.*?)```", file.read())[-1]
+        with tempfile.TemporaryDirectory() as room:
+            shutil.copy(f"{HERE}/year.csl", f"{room}/apa.csl")
+            shutil.copy(ITEMS, f"{room}/items.json")
+            path = {**os.environ, "PYTHONPATH": os.path.dirname(HERE)}
+            ran = subprocess.run([sys.executable, "-c", block], cwd=room, env=path,
+                                 stdout=subprocess.PIPE, check=True)
+        self.assertEqual(ran.stdout.decode(),
+                         "(van der Kwan, Okafor, ACME 2014: 7) van der Kwan, Okafor, ACME. 2014. "
+                         "Crazy rich moss: a survey.\n")
 
 
 if __name__ == "__main__":

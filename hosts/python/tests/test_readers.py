@@ -45,7 +45,6 @@ class Readers(unittest.TestCase):
         self.assertEqual(sulleqti.rendered(style.tree), value_of("moss.json"))
         self.assertEqual(dict(+style.left), LEFT)
         self.assertEqual((style.title, style.rights), ("Moss and <more>", "None."))
-        self.assertTrue(style.has_notes)
 
     def test_places(self):
         """The lines of what pointers lead to."""
