@@ -190,7 +190,8 @@ impl<'d> BibliographyDriver<'d> {
     /// The driver with a limit: the cites, works and sort keys of a list may write so many bytes in
     /// all. Cites that are rendered to tell works apart count too: one of each work, in notes two,
     /// and of works with equal cites one for each name that is added.
-    /// [`csl::context::Context::limit`] says what takes how many. Texts of the author around cites, and finishing, take none.
+    /// [`csl::context::Context::limit`] says what takes how many. Texts of the author around cites,
+    /// and finishing, take none.
     pub fn limited(self, bytes: u64) -> BibliographyDriver<'d>
         ensures requests { spec.requests_of result ≡ spec.requests_of self.entry }
         ensures limit { spec.limit_of result ≡ bytes }

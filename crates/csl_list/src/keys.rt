@@ -27,8 +27,8 @@ fn direction_of(key: &KeyLayout) -> SortDirection {
     }
 }
 
-/// The texts of a work's keys, in no case. They are without a year suffix, which would turn the order of works
-/// that differ by it alone in a descending key.
+/// The texts of a work's keys, in no case. They are without a year suffix, which would turn the
+/// order of works that differ by it alone in a descending key.
 fn key_texts<T: EntryLike>(
     alloc: Global,
     renderer: &mut Renderer<'_>,

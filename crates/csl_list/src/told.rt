@@ -579,8 +579,8 @@ fn with_expanded<T: EntryLike>(
     Ok(anew)
 }
 
-/// The cites of the works of a list, in its order, told apart by their names as the options have it:
-/// by names that the whole document needs, by more names, and by given names.
+/// The cites of the works of a list, in its order, told apart by their names as the options have
+/// it: by names that the whole document needs, by more names, and by given names.
 pub(crate) fn told_cites<T: EntryLike>(
     alloc: Global,
     renderer: &mut Renderer<'_>,

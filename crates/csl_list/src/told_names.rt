@@ -44,8 +44,8 @@ pub(crate) fn added_names(
     }
 }
 
-/// The names of a work that stand beside its suffix. There are none if its first cite says more than
-/// later ones.
+/// The names of a work that stand beside its suffix. There are none if its first cite says more
+/// than later ones.
 fn names_beside<'t>(
     told: &'t [ToldCite],
     identities: &[Identity],

@@ -31,7 +31,8 @@ fn author_substitute(form: Form<'_>) -> Result<Option<AuthorSubstitute>, WireErr
 
 /// The distance of lines, which is at least 1.
 fn line_spacing(form: Form<'_>) -> Result<u32, WireError>
-    ensures { IfOk result (λ n. read_spacing (codes "line-spacing") (view form.entry.value.now) ≡ Some n) }
+    ensures { IfOk result (λ n.
+        read_spacing (codes "line-spacing") (view form.entry.value.now) ≡ Some n) }
 {
     let lines = form.number("line-spacing")?.unwrap_or(1);
     if lines == 0 {

@@ -20,7 +20,8 @@ use std::alloc::Global;
 pub struct WireDocument<'v> {
     /// The citations, in order. A cite has the index of its work among the works.
     pub citations: Vec<CitationRequest<'v>>,
-    /// The works, each once, as they are first cited, and then those that are listed without a cite.
+    /// The works, each once, as they are first cited, and then those that are listed without a
+    /// cite.
     pub works: Vec<NamedWork<'v>>,
 }
 

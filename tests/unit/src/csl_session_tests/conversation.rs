@@ -131,7 +131,7 @@ fn a_session_tells_of_itself(rt: HostRuntime) -> Result<(), Fail> {
             .starts_with("{\"id\":1,\"ok\":{\"languages\":[\"en-US\",\"en-GB\"")
     );
     assert!(rt; reply.as_str().contains("\"protocol\":1,"));
-    assert!(rt; reply.as_str().contains("\"version\":\"0.6.0\"}}"));
+    assert!(rt; reply.as_str().contains("\"version\":\"0.7.0\"}}"));
     assert!(rt; reply.as_str().contains("\"reply\":16000000,"));
     Ok(())
 }
