@@ -7,7 +7,7 @@ SEEN = (
     ("the words are of another language or country than the style's",
      "`default-locale` of another language than the locale"),
     ("page ranges are in full, as 454–477 for 454–77", "the page format .*"),
-    ("titles and labels keep their case", "`text-case`"),
+    ("titles and labels keep their case", "`text-case`( of .*)?"),
     ("words are missing that the library has no term for", "the term .*"),
     ("ranges of dates are cut to their first date", "ranges of dates"),
     ("markup inside of titles is dropped", "markup in texts"),

@@ -1,5 +1,6 @@
 //! The cases that a style sets for texts, in the citations and the works of a list (CSL 1.0.2,
 //! Text-case). The style has marks of them in its affixes.
+//! Definitions: crates/csl_finish/specs/CaseMarks.antt.
 
 ghost use Rattle.std.specs.Prelude.{◌≡◌, false, OnOk};
 ghost use Rattle.csl_finish.specs.CaseMarks.{have_mark};

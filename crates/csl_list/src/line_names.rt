@@ -1,5 +1,6 @@
 //! Names that a work shows in the bibliography because its cite does (CSL 1.0.2, Disambiguation:
 //! disambiguate-add-names).
+//! Definitions: specs/Bibliography.antt.
 
 ghost use Rattle.std.specs.Prelude.{◌≡◌, false, None, IfOk, IfErr, option_copied};
 ghost use Rattle.csl_tree.specs.Tokens.{tokens};

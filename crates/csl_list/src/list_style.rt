@@ -210,12 +210,12 @@ impl ListStyle {
     /// get no title case (CSL 1.0.2, Text-case: Non-English Items). A new style is for English.
     pub fn with_english(self, is_english: bool) -> ListStyle
         ensures english { spec.english_of result ≡ is_english }
-        ensures style { spec.style_of result ≡ spec.style_of self.entry }
-        ensures citation { spec.citation_of result ≡ spec.citation_of self.entry }
-        ensures bibliography { spec.bibliography_of result ≡ spec.bibliography_of self.entry }
-        ensures citation_keys { spec.citation_keys result ≡ spec.citation_keys self.entry }
+        ensures style { spec.style_of result ≡ spec.style_of self }
+        ensures citation { spec.citation_of result ≡ spec.citation_of self }
+        ensures bibliography { spec.bibliography_of result ≡ spec.bibliography_of self }
+        ensures citation_keys { spec.citation_keys result ≡ spec.citation_keys self }
         ensures bibliography_keys { spec.bibliography_keys result
-            ≡ spec.bibliography_keys self.entry }
+            ≡ spec.bibliography_keys self }
     {
         let ListStyle {
             style,

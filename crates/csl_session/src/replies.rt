@@ -1,7 +1,7 @@
 //! Replies: an answer or an error, with the id of the request.
 //! Definitions: specs/Replies.antt.
 
-ghost use Rattle.std.specs.Prelude.{◌≡◌, true, None, Some, IfOk, IfErr, string_bytes};
+ghost use Rattle.std.specs.Prelude.{◌≡◌, true, None, Some, IfOk, IfErr, OnOk, string_bytes};
 ghost use Rattle.std.specs.Str.{IsUtf8};
 ghost use Rattle.serde_json.specs.Read.{read};
 ghost use Rattle.serde_json.specs.View.{view};
@@ -106,6 +106,7 @@ pub(crate) fn reply_text(
 /// The JSON value of a request.
 pub(crate) fn value_of_bytes(alloc: Global, request: &[u8]) -> Result<Value, WireError>
     ensures value { IfOk result (λ v. read request.now ≡ Some (view v)) }
+    ensures utf8 { OnOk result (IsUtf8 request.now) }
     ensures refused { IfErr result (λ e. is_refused e ≡ true → IsUtf8 request.now
         → read request.now ≡ None) }
 {

@@ -146,8 +146,8 @@ impl Session {
     pub fn reply(&mut self, alloc: Global, request: &[u8]) -> Result<String, Memory>
         ensures json { (d : Data) → IsUtf8 request.now → read request.now ≡ Some d → IfOk result
             (λ text. IsReplyText (id_of d) (string_bytes text)) }
-        ensures other { read request.now ≡ None → IfOk result (λ text. IsReplyText null
-            (string_bytes text)) }
+        ensures other { (IsUtf8 request.now → read request.now ≡ None) → IfOk result (λ text.
+            IsReplyText null (string_bytes text)) }
     {
         let null = Value::Null;
         match value_of_bytes(alloc, request) {

@@ -1,16 +1,18 @@
 -- What was read, by the facts of its members.
-use Rattle.std.proofs.Common.{◌≡◌, refl, sym, ap, ◌∙◌, ℕ, List, [], Option, Some, map, option_map, unwrap_or, slice_get, codes}
+use Rattle.std.proofs.Common.{◌≡◌, refl, sym, ap, subst, ◌∙◌, ℕ, List, [], Option, Some, map, option_map, unwrap_or, slice_get, codes}
 use Rattle.std.specs.List.{AllZip, flat_map}
 use Rattle.serde_json.specs.Data.{Data}
 use Rattle.serde_json.specs.Find.{as_str}
 use Rattle.csl_entry.specs.Numbers.{note_number}
 use Rattle.csl_style.specs.Style.{StyleParts}
+use Rattle.csl_list.specs.declared.options.CitationOptions.{CitationOptions}
 use Rattle.csl_list.specs.declared.options.SortKey.{SortKey}
 use Rattle.csl_list.specs.declared.request.CitationItem.{CitationItem}
 use Rattle.csl_list.specs.declared.request.CitationRequest.{CitationRequest}
 use Rattle.csl_wire.specs.Reading.{member, read_list, read_member, read_number, read_one}
 use Rattle.csl_wire.specs.Styles.{IsStyle}
 use Rattle.csl_wire.proofs.Members.{one_read}
+use Rattle.csl_wire_list.specs.CitationOptions.{AreCitationOptions, AreCitationOptionsIf}
 use Rattle.csl_wire_list.specs.Citations.{names_in, IsCitation}
 use Rattle.csl_wire_list.specs.Documents.{word_in, IsDocument}
 use Rattle.csl_wire_list.specs.Items.{name_in, IsItem, IsOfWork}
@@ -24,6 +26,9 @@ keys_read d items keys are each = record { items = items; are = are; keys_ = eac
 
 pub style_read : (d own : Data) (s : StyleParts) → Some own ≡ member (codes "style") d → IsStyle own s.settings s.macros s.citation s.bibliography → IsStyleIn d s
 style_read d own s is style = record { own = own; is = sym is; style_ = style }
+
+pub citation_options_read : (d value : Data) (o : CitationOptions) → Some value ≡ member (codes "citation") d → AreCitationOptions value o → AreCitationOptionsIf (member (codes "citation") d) o
+citation_options_read d value o is h = subst (λ m. AreCitationOptionsIf m o) is h
 
 -- ---- the work of a cite
 

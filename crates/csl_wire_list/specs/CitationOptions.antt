@@ -1,7 +1,7 @@
 -- Which options of citations JSON objects are read as (CSL 1.0.2, Citation-specific Options; Layout;
 -- Sorting): each from the member of its name. One that is absent has CSL's default: a distance of 5
 -- notes, given names by cite, and else none. Without the object all are absent.
-use Rattle.std.specs.Prelude.{◌≡◌, ℕ, [], Option, Some, None, map, option_map, unwrap_or, codes, string_bytes}
+use Rattle.std.specs.Prelude.{◌≡◌, ℕ, [], Bool, false, Option, Some, None, map, option_map, unwrap_or, codes, string_bytes}
 use Rattle.serde_json.specs.Data.{Data}
 use Rattle.serde_json.specs.Find.{as_str}
 use Rattle.csl_elements.specs.Dressing.{text_if}
@@ -19,6 +19,10 @@ read_distance d = option_map (λ o. unwrap_or o 5) (read_member read_number (cod
 
 abbrev pub read_rule : Data → Option GivenNameRule
 read_rule d = option_map (λ o. unwrap_or o ByCite) (read_member (read_choice (map (pair_by lent) tables.GIVEN_NAME_RULES)) (codes "givenname-disambiguation-rule") d)
+
+-- whether citations begin with a capital, as they do in notes
+abbrev pub read_class : Data → Option Bool
+read_class d = option_map (λ o. unwrap_or o false) (read_member (read_choice (map (pair_by lent) tables.CLASSES)) (codes "class") d)
 
 pub record AreCitationOptions (d : Data) (o : CitationOptions) : Type 0 where
   pub prefix_ : read_layout_text (codes "prefix") d ≡ Some (string_bytes o.prefix)

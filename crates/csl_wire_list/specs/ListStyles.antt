@@ -8,7 +8,7 @@ use Rattle.csl_list.specs.declared.options.BibliographyOptions.{BibliographyOpti
 use Rattle.csl_wire.specs.Reading.{member}
 use Rattle.csl_wire.specs.Styles.{IsStyle}
 use Rattle.csl_wire_list.specs.BibliographyOptions.{AreBibliographyOptionsIf}
-use Rattle.csl_wire_list.specs.CitationOptions.{AreCitationOptionsIf}
+use Rattle.csl_wire_list.specs.CitationOptions.{read_class, AreCitationOptionsIf}
 
 -- a member that has to be there, and is read as the style
 pub record IsStyleIn (d : Data) (s : StyleParts) : Type 0 where
@@ -23,4 +23,5 @@ AreOwnOptions d (Some o) = AreBibliographyOptionsIf (member (codes "bibliography
 pub record IsListStyle (d : Data) (list : ListStyle) : Type 0 where
   pub style_ : IsStyleIn d (style_of list)
   pub citation_ : AreCitationOptionsIf (member (codes "citation") d) (citation_of list)
+  pub class_ : read_class d ≡ Some (citation_of list).begins_with_capital
   pub bibliography_ : AreOwnOptions d (bibliography_of list)

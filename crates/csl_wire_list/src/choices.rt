@@ -44,6 +44,10 @@ pub(crate) static SUBSTITUTE_RULES: [(&str, SubstituteRule); 4] = [
 /// The directions of a key: whether it is descending (CSL 1.0.2, Sorting: sort).
 pub(crate) static DIRECTIONS: [(&str, bool); 2] = [("ascending", false), ("descending", true)];
 
+/// The classes of styles: whether a citation begins with a capital, since it is a note (CSL 1.0.2,
+/// Style: class).
+pub(crate) static CLASSES: [(&str, bool); 2] = [("in-text", false), ("note", true)];
+
 /// What a cite prints.
 pub(crate) static PURPOSES: [(&str, CitePurpose); 5] = [
     ("author", CitePurpose::Author),

@@ -1,12 +1,12 @@
 //! The options of citations (CSL 1.0.2, Citation-specific Options; Layout; Sorting).
 //! Definitions: specs/CitationOptions.antt.
 
-ghost use Rattle.std.specs.Prelude.{◌≡◌, Some, IfOk, codes, map, option_map, unwrap_or};
+ghost use Rattle.std.specs.Prelude.{◌≡◌, false, Some, IfOk, codes};
 ghost use Rattle.serde_json.specs.View.{view};
 ghost use Rattle.csl_wire.specs.Reading.{member};
-ghost use Rattle.csl_wire_list.specs.CitationOptions.{AreCitationOptions, AreCitationOptionsIf};
+ghost use Rattle.csl_wire_list.specs.CitationOptions.{read_class, AreCitationOptions, AreCitationOptionsIf};
 
-use crate::choices::{COLLAPSES, GIVEN_NAME_RULES};
+use crate::choices::{CLASSES, COLLAPSES, GIVEN_NAME_RULES};
 use crate::keys::keys;
 use crate::layout::{LayoutTexts, layout_texts};
 use crate::limits::OptionLimits;
@@ -33,9 +33,14 @@ static CITATION: [&str; 11] = [
     "disambiguate-add-year-suffix",
 ];
 
-/// The options of citations among the members.
-fn options_in(limits: OptionLimits, form: Form<'_>) -> Result<CitationOptions, WireError>
-    ensures { IfOk result (AreCitationOptions (view form.entry.value.now)) }
+/// The options of citations among the members. A citation may begin with a capital.
+fn options_in(
+    limits: OptionLimits,
+    form: Form<'_>,
+    begins_with_capital: bool,
+) -> Result<CitationOptions, WireError>
+    ensures options { IfOk result (AreCitationOptions (view form.entry.value.now)) }
+    ensures capital { IfOk result (λ o. o.begins_with_capital ≡ begins_with_capital) }
 {
     let rule = form.choice("givenname-disambiguation-rule", &GIVEN_NAME_RULES)?;
     let distance = form.number("near-note-distance")?;
@@ -59,10 +64,26 @@ fn options_in(limits: OptionLimits, form: Form<'_>) -> Result<CitationOptions, W
         adds_given_names: form.is_true("disambiguate-add-givenname")?,
         given_name_rule: rule.unwrap_or(GivenNameRule::ByCite),
         adds_year_suffix: form.is_true("disambiguate-add-year-suffix")?,
+        begins_with_capital,
     })
 }
 
-/// The options of citations. One that is absent has CSL's default.
+/// The options of citations that a value is. A citation may begin with a capital.
+fn options_of(
+    alloc: Global,
+    value: &Value,
+    limits: OptionLimits,
+    begins_with_capital: bool,
+) -> Result<CitationOptions, WireError>
+    ensures options { IfOk result (AreCitationOptions (view value.now)) }
+    ensures capital { IfOk result (λ o. o.begins_with_capital ≡ begins_with_capital) }
+{
+    let form = Form::of(limits.texts(alloc), value, &[&CITATION])?;
+    let options = options_in(limits, form, begins_with_capital)?;
+    Ok(options)
+}
+
+/// The options of citations of a style of the class `in-text`. One that is absent has CSL's default.
 ///
 /// # Errors
 /// [`WireError::Refused`]: the value is no options of citations within the limits.
@@ -71,26 +92,36 @@ pub fn citation_options_of(
     value: &Value,
     limits: OptionLimits,
 ) -> Result<CitationOptions, WireError>
-    ensures { IfOk result (AreCitationOptions (view value.now)) }
+    ensures options { IfOk result (AreCitationOptions (view value.now)) }
+    ensures capital { IfOk result (λ o. o.begins_with_capital ≡ false) }
 {
-    let form = Form::of(limits.texts(alloc), value, &[&CITATION])?;
-    Ok(options_in(limits, form)?)
+    let options = options_of(alloc, value, limits, false)?;
+    Ok(options)
 }
 
 /// The options of citations among the members of a style with its options.
+#[tactic(auto, using(crate::proofs::Read::citation_options_read))]
 pub(crate) fn citation_options(
     limits: OptionLimits,
     form: Form<'_>,
 ) -> Result<CitationOptions, WireError>
-    ensures { IfOk result (AreCitationOptionsIf (member (codes "citation")
+    ensures options { IfOk result (AreCitationOptionsIf (member (codes "citation")
         (view form.entry.value.now))) }
+    ensures class { IfOk result (λ o. read_class (view form.entry.value.now)
+        ≡ Some o.begins_with_capital) }
 {
     let alloc = form.reader.alloc;
+    let is_note = form.choice("class", &CLASSES)?.unwrap_or(false);
     match form.member("citation") {
-        Some(value) => within(
-            Step::Member("citation"),
-            citation_options_of(alloc, value, limits),
-        ),
-        None => Ok(CitationOptions::new(alloc)),
+        Some(value) => {
+            let read = options_of(alloc, value, limits, is_note);
+            let options = within(Step::Member("citation"), read)?;
+            Ok(options)
+        }
+        None => {
+            let mut options = CitationOptions::new(alloc);
+            options.begins_with_capital = is_note;
+            Ok(options)
+        }
     }
 }

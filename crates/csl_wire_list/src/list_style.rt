@@ -103,7 +103,7 @@ pub fn list_style_in(form: Form<'_>, limits: OptionLimits) -> Result<ListStyle, 
 }
 
 /// The members of a style with its options.
-static LIST_STYLE: [&str; 3] = ["style", "citation", "bibliography"];
+static LIST_STYLE: [&str; 4] = ["style", "class", "citation", "bibliography"];
 
 /// A style with its options. Options that are absent have CSL's defaults.
 ///

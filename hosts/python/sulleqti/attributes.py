@@ -15,6 +15,8 @@ Sorts = Mapping[str, str]
 FORMATTING = {"font-style": "FontStyle", "font-variant": "FontVariant",
               "font-weight": "FontWeight", "text-decoration": "TextDecoration",
               "vertical-align": "VerticalAlign"}
+# The elements that have a text case.
+CASED = ("text", "number", "label", "date-part", "name-part")
 AFFIXES = {"prefix": "affix", "suffix": "affix"}
 # The options of names, of a style or a layout. Those of `name` have other names for two of them.
 INHERITED = {
@@ -94,9 +96,12 @@ class Attributes:
         return self.taken(FORMATTING)
 
     def text_case(self) -> Tree:
-        """The text case, which is counted: no writer has it yet (`rendered`)."""
-        self.left["`text-case`"] += "text-case" in self.rest
-        return self.taken({"text-case": "text"})
+        """The text case, which is counted: only rows have it (`rendered`), and only where one text
+        is printed."""
+        is_cased, found = self.node.name in CASED, self.taken({"text-case": "case"})
+        where = "" if is_cased else f" of `{self.node.name}`"
+        self.left[f"`text-case`{where}"] += len(found)
+        return found if is_cased else {}
 
     def end(self, children: Tuple[str, ...] = ()) -> None:
         """Refuses any other attribute, and each child but these."""

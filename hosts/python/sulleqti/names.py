@@ -21,6 +21,7 @@ OTHER_TERMS = {*NAMES["NameVariable"], *NUMERIC, *NAMES["OtherTerm"]}
 TERMS = {*OTHER_TERMS, *NAMES["Locator"]}
 NAMES.update({
     "flag": ["true", "false"], "true": ["true"], "class": ["in-text", "note"],
+    "case": ["lowercase", "uppercase", "capitalize-first", "capitalize-all", "sentence", "title"],
     "order": ["ascending", "descending"], "EtAlTerm": ["et-al", "and others"],
     "NumericVariable": NUMERIC, "TextVariable": NAMES["StandardVariable"] + NUMERIC,
     "Variable": list(SORTS),

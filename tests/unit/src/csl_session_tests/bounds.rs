@@ -17,8 +17,10 @@ fn what_is_kept_is_bounded(rt: HostRuntime) -> Result<(), Fail> {
         ..SessionLimits::of_strangers()
     };
     let mut session = Session::new(alloc, limits);
-    let works = r#"{"op":"works","works":[{"name":"a","work":{"key":"0123456789"}},{"name":"b","work":{}},{"name":"c","work":{}}]}"#;
-    let wanted = r#"{"id":null,"ok":[{"ok":{}},{"ok":{}},{"error":{"at":"/works/2","code":"full","message":"no more can be kept"}}]}"#;
+    let works =
+        r#"{"op":"works","works":[{"name":"a","work":{"key":"0123456789"}},{"name":"b","work":{}},{"name":"c","work":{}}]}"#;
+    let wanted =
+        r#"{"id":null,"ok":[{"ok":{}},{"ok":{}},{"error":{"at":"/works/2","code":"full","message":"no more can be kept"}}]}"#;
     assert_reply(&rt, alloc, &mut session, works, wanted);
     // What a value takes the place of no longer counts.
     assert_reply(&rt, alloc, &mut session, works, wanted);
@@ -27,12 +29,19 @@ fn what_is_kept_is_bounded(rt: HostRuntime) -> Result<(), Fail> {
     assert_reply(&rt, alloc, &mut session, works, wanted);
     // Nor does what is forgotten.
     let works = r#"{"op":"works","works":[{"name":"d","work":{"key":"0123456789"}}]}"#;
-    let full = r#"{"id":null,"ok":[{"error":{"at":"/works/0","code":"full","message":"no more can be kept"}}]}"#;
+    let full =
+        r#"{"id":null,"ok":[{"error":{"at":"/works/0","code":"full","message":"no more can be kept"}}]}"#;
     assert_reply(&rt, alloc, &mut session, works, full);
     let forget = r#"{"op":"drop","works":["a","b"]}"#;
     let forgotten = r#"{"id":null,"ok":{"styles":0,"works":2}}"#;
     assert_reply(&rt, alloc, &mut session, forget, forgotten);
-    assert_reply(&rt, alloc, &mut session, works, r#"{"id":null,"ok":[{"ok":{}}]}"#);
+    assert_reply(
+        &rt,
+        alloc,
+        &mut session,
+        works,
+        r#"{"id":null,"ok":[{"ok":{}}]}"#,
+    );
     let refused = r#"{"error":{"at":"","code":"full","message":"no more can be kept"},"id":0}"#;
     assert_reply(&rt, alloc, &mut session, STYLE, refused);
     Ok(())
@@ -106,15 +115,18 @@ fn locales_and_items_are_bounded(rt: HostRuntime) -> Result<(), Fail> {
     };
     let mut session = Session::new(alloc, limits);
     let style = r#"{"op":"style","name":"ad","style":{"locales":["en-US","de-DE"]}}"#;
-    let wanted = r#"{"error":{"at":"/style","code":"too-large","message":"the style has more locales than are allowed"},"id":null}"#;
+    let wanted =
+        r#"{"error":{"at":"/style","code":"too-large","message":"the style has more locales than are allowed"},"id":null}"#;
     assert_reply(&rt, alloc, &mut session, style, wanted);
     let works = r#"{"op":"works","works":[{},{}]}"#;
-    let wanted = r#"{"error":{"at":"/works","code":"too-large","message":"the request has more items than are allowed"},"id":null}"#;
+    let wanted =
+        r#"{"error":{"at":"/works","code":"too-large","message":"the request has more items than are allowed"},"id":null}"#;
     assert_reply(&rt, alloc, &mut session, works, wanted);
     let kept = r#"{"id":0,"ok":{"missing-macro":null}}"#;
     assert_reply(&rt, alloc, &mut session, STYLE, kept);
     let cites = r#"{"op":"cite","style":"ad","cites":[{},{}]}"#;
-    let wanted = r#"{"error":{"at":"/cites","code":"too-large","message":"the request has more items than are allowed"},"id":null}"#;
+    let wanted =
+        r#"{"error":{"at":"/cites","code":"too-large","message":"the request has more items than are allowed"},"id":null}"#;
     assert_reply(&rt, alloc, &mut session, cites, wanted);
     Ok(())
 }

@@ -1,6 +1,8 @@
 //! Documents: the works that they name, and their citations.
 
-use crate::csl_wire_list_tests::reading::document;
+use crate::csl_wire_list_tests::reading::{document, document_text, json};
+use csl_wire::{Form, Limits, Reader};
+use csl_wire_list::{DocumentLimits, document_in};
 
 /// Documents, and what is read. Works stand as they are first named.
 static DOCUMENTS: [(&str, &str); 12] = [
@@ -49,4 +51,27 @@ fn documents_that_are_read(rt: HostRuntime) {
         let came = document(&rt, rt.alloc(), text);
         assert_eq!(&rt; came.as_str(), *wanted, "of {text}");
     }
+}
+
+const REQUEST: &str = r#"{
+    "op": "document",
+    "citations": [{"items": [{"work": "kwan", "prefix": "see "}]}],
+    "works": ["roe"]}"#;
+
+/// A request with a document has further members.
+#[test]
+fn document_of_a_request(rt: HostRuntime) {
+    let alloc = rt.alloc();
+    let value = json(&rt, alloc, REQUEST);
+    let limits = Limits::of_strangers();
+    let form = Form::of(
+        Reader { alloc, limits },
+        &value,
+        &[&["op", "citations", "works"]],
+    );
+    let form = form.expect(&rt, "a request");
+    let document = document_in(form, DocumentLimits::of_strangers()).expect(&rt, "a document");
+    let came = document_text(&rt, alloc, &document);
+    assert_eq!(&rt; came.as_str(), "kwan roe / [0 prefix=see ];");
+    drop(document);
 }

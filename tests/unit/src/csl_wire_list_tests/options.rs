@@ -1,8 +1,10 @@
 //! Options of styles, by their attributes in CSL 1.0.2.
 
 use crate::csl_wire_list_tests::reading::{
-    bibliography_options, citation_options, options_of_style,
+    bibliography_options, citation_options, json, options_of_style, options_text,
 };
+use csl_wire::{Form, Limits, Reader};
+use csl_wire_list::{OptionLimits, list_style_in};
 
 /// Options of citations, and what is read.
 static CITATIONS: [(&str, &str); 12] = [
@@ -143,7 +145,19 @@ fn options_of_bibliographies(rt: HostRuntime) {
 }
 
 /// Styles with their options, and the options that are read.
-static STYLES: [(&str, &str); 3] = [
+static STYLES: [(&str, &str); 6] = [
+    (
+        r#"{"style": {}, "class": "in-text"}"#,
+        "||;; None None None None; 5; false false ByCite false / |;; false None 1 1",
+    ),
+    (
+        r#"{"style": {}, "class": "note"}"#,
+        "||;; None None None None; 5; false false ByCite false; capital / |;; false None 1 1",
+    ),
+    (
+        r#"{"style": {}, "class": "note", "citation": {"layout": {"suffix": "."}}}"#,
+        "|.|;; None None None None; 5; false false ByCite false; capital / |;; false None 1 1",
+    ),
     (
         r#"{"style": {}}"#,
         "||;; None None None None; 5; false false ByCite false / |;; false None 1 1",
@@ -164,4 +178,28 @@ fn styles_with_options(rt: HostRuntime) {
         let came = options_of_style(&rt, rt.alloc(), text);
         assert_eq!(&rt; came.as_str(), *wanted, "of {text}");
     }
+}
+
+const REQUEST: &str = r#"{
+    "op": "style",
+    "style": {},
+    "citation": {"layout": {"delimiter": "; "}}}"#;
+
+/// A request with a style has further members.
+#[test]
+fn style_of_a_request(rt: HostRuntime) {
+    let alloc = rt.alloc();
+    let value = json(&rt, alloc, REQUEST);
+    let limits = Limits::of_strangers();
+    let form = Form::of(
+        Reader { alloc, limits },
+        &value,
+        &[&["op", "style", "citation"]],
+    );
+    let form = form.expect(&rt, "a request");
+    let style = list_style_in(form, OptionLimits::of_strangers()).expect(&rt, "a style");
+    let came = options_text(&rt, alloc, &style);
+    let wanted = "||; ;; None None None None; 5; false false ByCite false / |;; false None 1 1";
+    assert_eq!(&rt; came.as_str(), wanted);
+    drop(style);
 }

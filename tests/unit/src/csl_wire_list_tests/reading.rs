@@ -2,7 +2,8 @@
 
 use csl::{BufWriteFormat, ElemChildren};
 use csl_list::{
-    BibliographyOptions, CitationItem, CitationOptions, CitationRequest, KeySource, SortKey,
+    BibliographyOptions, CitationItem, CitationOptions, CitationRequest, KeySource, ListStyle,
+    SortKey,
 };
 use csl_wire::{WireError, value_of_text};
 use csl_wire_list::{
@@ -70,6 +71,9 @@ fn citation_text(rt: &impl Abort, alloc: Global, options: &CitationOptions) -> S
         options.adds_year_suffix
     );
     push(rt, &mut text, more.expect(rt, "memory").as_str());
+    if options.begins_with_capital {
+        push(rt, &mut text, "; capital");
+    }
     text
 }
 
@@ -198,7 +202,7 @@ fn push_citation(
 }
 
 /// The names of the works of a document, and its citations.
-fn document_text(rt: &impl Abort, alloc: Global, document: &WireDocument<'_>) -> String {
+pub(crate) fn document_text(rt: &impl Abort, alloc: Global, document: &WireDocument<'_>) -> String {
     let mut text = String::new(alloc);
     for work in &document.works {
         push(rt, &mut text, work.name);

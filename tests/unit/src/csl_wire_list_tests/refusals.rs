@@ -129,7 +129,11 @@ fn refused_options_of_bibliographies(rt: HostRuntime) {
     }
 }
 
-static STYLES: [(&str, &str); 6] = [
+static STYLES: [(&str, &str); 7] = [
+    (
+        r#"{"style": {}, "class": "notes"}"#,
+        r#"/class unknown-name: no value here has this name: "notes" (the nearest is "note")"#,
+    ),
     ("{}", r#" missing-member: a member is missing: "style""#),
     (
         r#"{"style": {}, "citations": {}}"#,

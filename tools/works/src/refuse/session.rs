@@ -7,7 +7,8 @@ use std::io::{self, ErrorKind, Write};
 use std::str;
 
 /// Requests that keep a style and a work, and print a cite and a line of the bibliography.
-const REQUESTS: &str = r#"{"id":1,"op":"style","name":"s","style":{"citation":{"children":[{"names":{"variable":["author"],"suffix":", ","children":[{"name":{"form":"short"}}]}},{"date":{"variable":"issued","date-part":[{"name":"year"}]}}]},"bibliography":{"children":[{"text":{"variable":"title"}}]}}}
+const REQUESTS: &str =
+    r#"{"id":1,"op":"style","name":"s","style":{"citation":{"children":[{"names":{"variable":["author"],"suffix":", ","children":[{"name":{"form":"short"}}]}},{"date":{"variable":"issued","date-part":[{"name":"year"}]}}]},"bibliography":{"children":[{"text":{"variable":"title"}}]}}}
 {"id":2,"op":"works","works":[{"name":"kwan","work":{"type":["book"],"variables":{"author":[{"family":"Kwan"}],"title":"Moss","issued":{"year":2014}}}}]}
 {"id":3,"op":"cite","style":"s","cites":[{"work":"kwan"},{"work":{}}]}
 {"id":4,"op":"line","style":"s","lines":[{"work":"kwan"}],"formats":["tree"]}
@@ -41,7 +42,7 @@ impl Write for Output {
 }
 
 /// The reply to a request, or that it says that memory ran out.
-fn reply(alloc: Global, session: &mut Session, request: &str) -> Result<String, WorkError> {
+fn reply_to(alloc: Global, session: &mut Session, request: &str) -> Result<String, WorkError> {
     let reply = session.reply(alloc, request.as_bytes())?;
     if reply.as_str().contains(SAYS_SO) {
         return Err(WorkError::Memory);
@@ -54,11 +55,13 @@ pub fn replies(alloc: Global) -> Result<String, WorkError> {
     let mut session = Session::new(alloc, SessionLimits::of_strangers());
     let mut replies = String::new(alloc);
     for request in REQUESTS.lines() {
-        let reply = match reply(alloc, &mut session, request) {
-            Err(WorkError::Memory) => reply(alloc, &mut session, request)?,
-            reply => reply?,
+        let reply = match reply_to(alloc, &mut session, request) {
+            Err(WorkError::Memory) => reply_to(alloc, &mut session, request)?,
+            other => other?,
         };
-        replies.push_str(" / ")?;
+        if !replies.is_empty() {
+            replies.push_str(" / ")?;
+        }
         replies.push_str(reply.as_str())?;
     }
     Ok(replies)
