@@ -20,6 +20,9 @@ STYLES = "tools/samples"
 BOOK = {"id": "b", "type": "book", "title": "T", "author": [{"family": "Ode"}],
         "issued": {"date-parts": [[2014]]}}
 OF_BOOK = "b\n  (Ode, 2014)\n  Ode (2014). T.\n"
+# A style that prints titles.
+OF_TITLES = """<style xmlns="http://purl.org/net/xbiblio/csl" version="1.0" class="in-text"><info/><citation>
+<layout delimiter="; "><text variable="title" font-style="italic"/></layout></citation></style>"""
 # Variables of an item of its own, with the line of the bibliography.
 RIGHT = [
     ({"issued": {"date-parts": [["2014", "5"]]}}, "Ode (2014). T."),
@@ -434,6 +437,24 @@ class TrialTests:
                   "nothing differs at bracketed citation 7 (pandoc: another)"]
         self.row("differences from pandoc", (status, text.splitlines()), (1, wanted))
 
+    def test_compare_csl(self) -> None:
+        """tools/compare_csl over made-up tests: one is equal, one differs, one differs by a cause, and one is not
+        taken. Two causes are of tests that do not differ."""
+        works = [{"id": it, "type": "book", "title": it} for it in "TU"]
+        wanted = {"one": "<i>T</i>; <i>U</i>", "two": "<b>T</b>; <i>U</i>", "three": "T", "four": "<i>T</i>"}
+        for name, result in wanted.items():
+            parts = {"MODE": "citation", "RESULT": result, "CSL": OF_TITLES,
+                     "INPUT": json.dumps(works if name != "four" else works[:1])}
+            text = "\n\n".join(f">>== {it} ==>>\n{part}\n<<== {it} ==<<" for it, part in parts.items())
+            path = self.file(f"official/{name}.txt", text)
+        causes = self.file("causes", "csl: another\n  three four\nlist: a fault\n  one\n")
+        status, text, _ = ran(["tools/compare_csl", os.path.dirname(path), "--causes", causes])
+        wanted = ["4 tests, 3 taken: 1 equal", "1 not taken: (needs no document)", "1 differ: csl: another",
+                  "1 differ: without a cause", "", "two:", "  CSL  {bold}T{}; {italic}U",
+                  "  here {italic}T{}; {italic}U", "nothing differs at four (csl: another)",
+                  "nothing differs at one (list: a fault)"]
+        self.row("differences from CSL's tests", (status, text.splitlines()), (1, wanted))
+
     def test_no_kit(self) -> None:
         """Without the kit, and without a program of an earlier call, there is one line."""
         top = f"{self.room}/no_kit"
@@ -480,6 +501,7 @@ class TrialTests:
         self.test_hostile_sizes()
         self.test_missing()
         self.test_compare_pandoc()
+        self.test_compare_csl()
         self.test_no_kit()
         self.test_kept_at_once()
         self.test_many()
