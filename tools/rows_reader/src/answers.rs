@@ -18,6 +18,7 @@ use csl::style::RenderingElement;
 use csl::{
     CiteProperties, InstanceContext, Scope, Style, bibliography_entry, cite, cite_pair, render_pair,
 };
+use csl_finish::without_case_marks;
 use csl_list::ListStyle;
 use std::alloc::Global;
 
@@ -213,11 +214,12 @@ impl<'r> Row<'r> {
     ) -> Result<(), Fault> {
         match (question, scope) {
             (Question::Text(_) | Question::Tree | Question::Left, Scope::Citation) => {
-                add_rendered(words, question, &cite(self.alloc, style, work, cite_props)?)
+                let rendered = cite(self.alloc, style, work, cite_props)?;
+                add_rendered(self.alloc, words, question, &rendered)
             }
             (Question::Text(_) | Question::Tree | Question::Left, Scope::Bibliography) => {
                 match bibliography_entry(self.alloc, style, work, cite_props)? {
-                    Some(rendered) => add_rendered(words, question, &rendered),
+                    Some(rendered) => add_rendered(self.alloc, words, question, &rendered),
                     None => Ok(words.push_str("(no bibliography)")?),
                 }
             }
@@ -235,14 +237,20 @@ impl<'r> Row<'r> {
     }
 }
 
-/// Appends the content or the state of a rendering.
+/// Appends the content or the state of a rendering. Texts have no case outside of a document, so
+/// they are without the marks of one.
 pub fn add_rendered(
+    alloc: Global,
     words: &mut String,
     question: Question,
     rendered: &Rendered,
 ) -> Result<(), Fault> {
     match question {
-        Question::Text(format) => Ok(rendered.content.write_buf(words, format)?),
+        Question::Text(format) => {
+            let text = rendered.content.to_text(alloc, format)?;
+            let text = without_case_marks(alloc, text.as_str())?;
+            Ok(words.push_str(text.as_str())?)
+        }
         Question::Left => add_state(words, &rendered.state),
         _ => add_tree(words, &rendered.content),
     }

@@ -57,7 +57,7 @@ impl<'s> Scene<'s> {
     /// Appends the content or the state of the nodes.
     pub fn add_content(&self, words: &mut String, question: Question) -> Result<(), Fault> {
         let (_, rendered) = self.after(|ctx| self.element.render(ctx))?;
-        add_rendered(words, question, &rendered)
+        add_rendered(self.alloc, words, question, &rendered)
     }
 
     /// Appends that a call changed the content or the state, if it did.
