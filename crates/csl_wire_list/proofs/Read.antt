@@ -1,5 +1,5 @@
 -- What was read, by the facts of its members.
-use Rattle.std.proofs.Common.{◌≡◌, refl, sym, ap, subst, ◌∙◌, ℕ, List, [], Option, Some, map, option_map, unwrap_or, slice_get, codes}
+use Rattle.std.proofs.Common.{◌≡◌, sym, ap, subst, ◌∙◌, ℕ, List, [], Some, map, option_map, unwrap_or, slice_get, codes}
 use Rattle.std.specs.List.{AllZip, flat_map}
 use Rattle.serde_json.specs.Data.{Data}
 use Rattle.serde_json.specs.Find.{as_str}
@@ -7,9 +7,8 @@ use Rattle.csl_entry.specs.Numbers.{note_number}
 use Rattle.csl_style.specs.Style.{StyleParts}
 use Rattle.csl_list.specs.declared.options.CitationOptions.{CitationOptions}
 use Rattle.csl_list.specs.declared.options.SortKey.{SortKey}
-use Rattle.csl_list.specs.declared.request.CitationItem.{CitationItem}
 use Rattle.csl_list.specs.declared.request.CitationRequest.{CitationRequest}
-use Rattle.csl_wire.specs.Reading.{member, read_list, read_member, read_number, read_one}
+use Rattle.csl_wire.specs.Reading.{member, read_list, read_member, read_number}
 use Rattle.csl_wire.specs.Styles.{IsStyle}
 use Rattle.csl_wire.proofs.Members.{one_read}
 use Rattle.csl_wire_list.specs.CitationOptions.{AreCitationOptions, AreCitationOptionsIf}

@@ -5,7 +5,7 @@
 use Rattle.std.specs.Prelude.{◌≡◌, ℕ, List, Option, Some, None, map, option_map, unwrap_or, codes, string_bytes}
 use Rattle.serde_json.specs.Data.{Data}
 use Rattle.serde_json.specs.Find.{as_str}
-use Rattle.csl_wire.specs.Reading.{lent, pair_by, member, read_choice, read_flag, read_member, read_number, read_one}
+use Rattle.csl_wire.specs.Reading.{lent, pair_by, read_choice, read_flag, read_member, read_number}
 use Rattle.csl_list.specs.Options.{HasNoOptions}
 use Rattle.csl_list.specs.declared.options.AuthorSubstitute.{AuthorSubstitute}
 use Rattle.csl_list.specs.declared.options.BibliographyOptions.{BibliographyOptions}

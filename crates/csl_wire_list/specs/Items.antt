@@ -1,6 +1,6 @@
 -- Which cites JSON objects are read as (CSL 1.0.2, Citation; Locators). The texts around a cite have
 -- no formatting.
-use Rattle.std.specs.Prelude.{◌≡◌, ℕ, List, [], Option, Some, None, map, option_map, unwrap_or, slice_get, codes}
+use Rattle.std.specs.Prelude.{◌≡◌, ℕ, List, [], Option, Some, map, option_map, unwrap_or, slice_get, codes}
 use Rattle.serde_json.specs.Data.{Data}
 use Rattle.serde_json.specs.Find.{as_str}
 use Rattle.csl_entry.specs.Cite.{locator_view}

@@ -1,6 +1,6 @@
 -- Which keys JSON objects are read as (CSL 1.0.2, Sorting): one of `variable` and `macro`, and a
 -- direction, upwards if it is absent.
-use Rattle.std.specs.Prelude.{◌≡◌, ℕ, List, Bool, false, Option, Some, None, map, option_map, unwrap_or, codes, string_bytes}
+use Rattle.std.specs.Prelude.{◌≡◌, List, Bool, false, Option, Some, None, map, option_map, unwrap_or, codes, string_bytes}
 use Rattle.std.specs.List.{AllZip}
 use Rattle.serde_json.specs.Data.{Data}
 use Rattle.serde_json.specs.Find.{as_str}

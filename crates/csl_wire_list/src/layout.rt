@@ -5,7 +5,7 @@
 ghost use Rattle.std.specs.Prelude.{◌≡◌, Some, IfOk, codes, string_bytes};
 ghost use Rattle.serde_json.specs.View.{view};
 ghost use Rattle.csl_wire.specs.Reading.{member};
-ghost use Rattle.csl_wire_list.specs.Layouts.{read_layout_text, read_text, read_text_in};
+ghost use Rattle.csl_wire_list.specs.Layouts.{read_layout_text, read_text};
 
 use csl_wire::{Form, Step, WireError, within};
 

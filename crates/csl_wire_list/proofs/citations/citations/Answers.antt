@@ -1,4 +1,4 @@
-use Rattle.std.proofs.Common.{rules, ◌≡◌}
+use Rattle.std.proofs.Common.{rules}
 use Rattle.csl_wire_list.specs.Works.{names_of}
 use Rattle.csl_wire_list.proofs.Longer.{names_more, one_citation_more}
 use Rattle.csl_wire_list.proofs.citations.citations.Goals as goal

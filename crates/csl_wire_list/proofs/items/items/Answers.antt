@@ -1,4 +1,4 @@
-use Rattle.std.proofs.Common.{rules, ◌≡◌}
+use Rattle.std.proofs.Common.{rules}
 use Rattle.csl_wire_list.specs.Works.{names_of}
 use Rattle.csl_wire_list.proofs.Longer.{one_item_more, one_name_more}
 use Rattle.csl_wire_list.proofs.items.items.Goals as goal
