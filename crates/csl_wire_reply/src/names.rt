@@ -6,6 +6,7 @@ ghost use Rattle.csl_wire_reply.specs.Members as spec;
 
 use csl_elements::{Display, FontStyle, FontVariant, FontWeight, TextDecoration, VerticalAlign};
 
+/// The name of a font style.
 pub(crate) fn font_style(style: FontStyle) -> Option<&'static str>
     ensures { option_map (λ t. t.now) result ≡ spec.font_style style }
 {
@@ -15,6 +16,7 @@ pub(crate) fn font_style(style: FontStyle) -> Option<&'static str>
     }
 }
 
+/// The name of a font variant.
 pub(crate) fn font_variant(variant: FontVariant) -> Option<&'static str>
     ensures { option_map (λ t. t.now) result ≡ spec.font_variant variant }
 {
@@ -24,6 +26,7 @@ pub(crate) fn font_variant(variant: FontVariant) -> Option<&'static str>
     }
 }
 
+/// The name of a font weight.
 pub(crate) fn font_weight(weight: FontWeight) -> Option<&'static str>
     ensures { option_map (λ t. t.now) result ≡ spec.font_weight weight }
 {
@@ -34,6 +37,7 @@ pub(crate) fn font_weight(weight: FontWeight) -> Option<&'static str>
     }
 }
 
+/// The name of a decoration.
 pub(crate) fn text_decoration(decoration: TextDecoration) -> Option<&'static str>
     ensures { option_map (λ t. t.now) result ≡ spec.text_decoration decoration }
 {
@@ -43,6 +47,7 @@ pub(crate) fn text_decoration(decoration: TextDecoration) -> Option<&'static str
     }
 }
 
+/// The name of an alignment.
 pub(crate) fn vertical_align(align: VerticalAlign) -> Option<&'static str>
     ensures { option_map (λ t. t.now) result ≡ spec.vertical_align align }
 {
@@ -54,6 +59,7 @@ pub(crate) fn vertical_align(align: VerticalAlign) -> Option<&'static str>
     }
 }
 
+/// The name of a display, which has no default.
 pub(crate) fn display(display: Display) -> &'static str
     ensures { result.now ≡ spec.display_name display }
 {
