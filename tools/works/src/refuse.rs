@@ -50,6 +50,7 @@ pub fn result(alloc: Global, name: &str) -> Result<String, WorkError> {
         "wire-entry" => wire::entry(alloc),
         "wire-cite" => wire::cite(alloc),
         "session" => session::replies(alloc),
+        "session-document" => session::document(alloc),
         "session-lines" => session::lines(alloc),
         _ => Err(WorkError::Unexpected("no such work")),
     }

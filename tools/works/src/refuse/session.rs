@@ -14,6 +14,14 @@ const REQUESTS: &str =
 {"id":4,"op":"line","style":"s","lines":[{"work":"kwan"}],"formats":["tree"]}
 "#;
 
+/// Requests that keep a style with its options and two works of a name and a year, and print a
+/// document that cites both.
+const DOCUMENT: &str =
+    r#"{"id":1,"op":"style","name":"s","style":{"citation":{"children":[{"group":{"delimiter":" ","children":[{"names":{"variable":["author"],"children":[{"name":{"form":"short"}}]}},{"date":{"variable":"issued","date-part":[{"name":"year"}]}}]}}]},"bibliography":{"children":[{"text":{"variable":"title"}}]}},"citation":{"layout":{"prefix":"(","suffix":")","delimiter":"; "},"disambiguate-add-year-suffix":true},"bibliography":{"sort":[{"variable":"title"}]}}
+{"id":2,"op":"works","works":[{"name":"sand","work":{"variables":{"author":[{"family":"Kwan"}],"title":"Sand","issued":{"year":2014}}}},{"name":"moss","work":{"variables":{"author":[{"family":"Kwan"}],"title":"Moss","issued":{"year":2014}}}}]}
+{"id":3,"op":"document","style":"s","citations":[{"items":[{"work":"sand"},{"work":"moss"}]}],"formats":["plain"]}
+"#;
+
 /// What a reply has that says so.
 const SAYS_SO: &str = "\"code\":\"out-of-memory\"";
 
@@ -50,11 +58,12 @@ fn reply_to(alloc: Global, session: &mut Session, request: &str) -> Result<Strin
     Ok(reply)
 }
 
-/// The replies of a session. If memory runs out for one, it is asked for once more.
-pub fn replies(alloc: Global) -> Result<String, WorkError> {
+/// The replies of a session to these requests. If memory runs out for one, it is asked for once
+/// more.
+fn replies_to(alloc: Global, requests: &str) -> Result<String, WorkError> {
     let mut session = Session::new(alloc, SessionLimits::of_strangers());
     let mut replies = String::new(alloc);
-    for request in REQUESTS.lines() {
+    for request in requests.lines() {
         let reply = match reply_to(alloc, &mut session, request) {
             Err(WorkError::Memory) => reply_to(alloc, &mut session, request)?,
             other => other?,
@@ -65,6 +74,16 @@ pub fn replies(alloc: Global) -> Result<String, WorkError> {
         replies.push_str(reply.as_str())?;
     }
     Ok(replies)
+}
+
+/// The replies to requests for a cite and a line.
+pub fn replies(alloc: Global) -> Result<String, WorkError> {
+    replies_to(alloc, REQUESTS)
+}
+
+/// The replies to requests for a document.
+pub fn document(alloc: Global) -> Result<String, WorkError> {
+    replies_to(alloc, DOCUMENT)
 }
 
 /// What is wrong with the lines of a session: nothing if each of the four is a reply, and none says
