@@ -119,7 +119,8 @@ impl<'s, T> Context<'s, T> {
         old
     }
 
-    /// Restores whether texts lose their periods.
+    /// Sets back whether texts lose their periods to `old`, which [`Context::may_strip_periods`]
+    /// returned.
     pub fn stop_stripping_periods(&mut self, old: bool)
         ensures { self.new ≡ with_stripping old self.old }
     {

@@ -38,7 +38,8 @@ impl Affixes {
 
     /// A prefix and a suffix.
     pub fn around(alloc: Global, prefix: &str, suffix: &str) -> Result<Affixes, Memory>
-        ensures { IfOk result (λ affixes. affix_texts affixes ≡ texts_around prefix.now suffix.now) }
+        ensures { IfOk result (λ affixes. affix_texts affixes
+            ≡ texts_around prefix.now suffix.now) }
     {
         let prefix = String::from_str(alloc, prefix)?;
         let suffix = String::from_str(alloc, suffix)?;

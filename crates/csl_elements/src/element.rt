@@ -92,8 +92,8 @@ struct Inside {
     children: Vec<NamesChild>,
 }
 
-/// Moves all of `more` to the end of a list. Returns what is left of `more`: nothing, or all of it if
-/// there is no memory.
+/// Moves all of `more` to the end of a list. Returns what is left of `more`: nothing, or all of it
+/// if there is no memory.
 fn append<T>(list: &mut Vec<T>, mut more: Vec<T>) -> Vec<T>
     ensures { list.new.items ++ result.items ≡ list.old.items ++ more.items }
 {
@@ -111,7 +111,8 @@ fn append_nodes(
     list: &mut Vec<LayoutRenderingElement>,
     more: Vec<LayoutRenderingElement>,
 ) -> Vec<LayoutRenderingElement>
-    ensures count { node_counts list.new.items + node_counts result.items ≡ node_counts list.old.items + node_counts more.items }
+    ensures count { node_counts list.new.items + node_counts result.items
+        ≡ node_counts list.old.items + node_counts more.items }
     ensures depth { max (node_depths list.new.items) (node_depths result.items)
         ≡ max (node_depths list.old.items) (node_depths more.items) }
 {
@@ -121,7 +122,8 @@ fn append_nodes(
 /// Moves branches to the end of a list, or returns them if there is no memory.
 #[tactic(auto, using(crate::proofs::InsideLaws::moved_laws))]
 fn append_branches(list: &mut Vec<ChooseBranch>, more: Vec<ChooseBranch>) -> Vec<ChooseBranch>
-    ensures count { branch_counts list.new.items + branch_counts result.items ≡ branch_counts list.old.items + branch_counts more.items }
+    ensures count { branch_counts list.new.items + branch_counts result.items
+        ≡ branch_counts list.old.items + branch_counts more.items }
     ensures depth { max (branch_depths list.new.items) (branch_depths result.items)
         ≡ max (branch_depths list.old.items) (branch_depths more.items) }
 {
@@ -131,7 +133,8 @@ fn append_branches(list: &mut Vec<ChooseBranch>, more: Vec<ChooseBranch>) -> Vec
 /// Moves children of names to the end of a list, or returns them if there is no memory.
 #[tactic(auto, using(crate::proofs::InsideLaws::moved_laws))]
 fn append_children(list: &mut Vec<NamesChild>, more: Vec<NamesChild>) -> Vec<NamesChild>
-    ensures count { child_counts list.new.items + child_counts result.items ≡ child_counts list.old.items + child_counts more.items }
+    ensures count { child_counts list.new.items + child_counts result.items
+        ≡ child_counts list.old.items + child_counts more.items }
     ensures depth { max (child_depths list.new.items) (child_depths result.items)
         ≡ max (child_depths list.old.items) (child_depths more.items) }
 {

@@ -1,5 +1,5 @@
-//! Lookups of dates in the locales of a style, in order (CSL 1.0.2, Locale), and the forms in which a
-//! term is looked up (CSL 1.0.2, Terms).
+//! Lookups of dates in the locales of a style, in order (CSL 1.0.2, Locale), and the forms in which
+//! a term is looked up (CSL 1.0.2, Terms).
 
 ghost use Rattle.std.specs.Prelude.{◌≡◌, find, option_copied};
 ghost use Rattle.csl_elements.specs.Term as spec;

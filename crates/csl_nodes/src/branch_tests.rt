@@ -148,7 +148,7 @@ fn any_present<'s, T: EntryLike>(
     Ok(false)
 }
 
-/// Whether any test of the branch has this outcome. The tests behind the first that has it are not
+/// Whether any test of the branch has this outcome. The tests after the first that has it are not
 /// read.
 #[tactic(auto, using(crate::proofs::Outcomes::outcomes_are))]
 fn any_has_outcome<'s, T: EntryLike>(

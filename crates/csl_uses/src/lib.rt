@@ -1,5 +1,5 @@
-//! Examples of the crates `csl`, `csl_list` and `csl_finish`, to read and copy. `tools/works/src/uses.rs` calls
-//! each, and `tools/works/uses.stdout` has what they make.
+//! Examples of the crates `csl`, `csl_list` and `csl_finish`, to read and copy.
+//! `tools/works/src/uses.rs` calls each, and `tools/works/uses.stdout` has what they make.
 //!
 //! - `book`: an entry that is built field by field, and its label;
 //! - `film`: a caller's own type as an entry;

@@ -1,5 +1,5 @@
-//! Cites: what the citation says of a cite (CSL 1.0.2, Choose: position; Locators; Number Variables;
-//! Disambiguation), and the part of it that is wanted.
+//! Cites: what the citation says of a cite (CSL 1.0.2, Choose: position; Locators; Number
+//! Variables; Disambiguation), and the part of it that is wanted.
 
 ghost use Rattle.std.specs.Prelude.{◌≡◌, ◌+◌, Some, IfOk, IfSome, codes, option_map};
 ghost use Rattle.serde_json.specs.View.{view};

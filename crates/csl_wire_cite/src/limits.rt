@@ -11,8 +11,8 @@ pub struct WorkLimits {
     /// The most bytes of the texts among the variables of a work, each text counted with one more.
     /// Its key has no more.
     pub bytes: usize,
-    /// The most bytes of a text for a number, for pages or for a locator, which each look-up may read
-    /// anew.
+    /// The most bytes of a text for a number, for pages or for a locator, which each look-up may
+    /// read anew.
     pub number: usize,
     /// The most persons of a work, and the most forms of names of a cite.
     pub persons: usize,

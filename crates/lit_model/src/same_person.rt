@@ -21,7 +21,8 @@ impl Person {
 /// place.
 pub fn are_same_persons(persons: &[Person], others: &[Person]) -> bool
     ensures texts { IsTrue result ↔ (map person_view persons.now ≡ map person_view others.now) }
-    ensures test { result ≡ same_persons (map person_view persons.now) (map person_view others.now) }
+    ensures test { result
+        ≡ same_persons (map person_view persons.now) (map person_view others.now) }
 {
     *persons == *others
 }

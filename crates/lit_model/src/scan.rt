@@ -68,7 +68,8 @@ pub fn first(text: &str) -> Option<(char, &str)>
 
 /// The longest front whose characters are of the class, and the rest.
 pub fn split_front(text: &str, class: Class) -> (&str, &str)
-    ensures front { result.0.now ≡ encode_utf8_all (longest_prefix (passes class) (chars text.now)) }
+    ensures front { result.0.now
+        ≡ encode_utf8_all (longest_prefix (passes class) (chars text.now)) }
     ensures rest { chars result.1.now ≡ after_longest_prefix (passes class) (chars text.now) }
 {
     let mut rest = text;

@@ -16,8 +16,8 @@ const ROWS: usize = 111;
 /// The place of the default.
 pub(crate) const DEFAULT: usize = 100;
 
-/// The place of the row of a slot. A slot that no lookup asks for may share that of another, or have
-/// none.
+/// The place of the row of a slot. A slot that no lookup asks for may share that of another, or
+/// have none.
 fn slot_place(slot: OrdinalSlot) -> usize
     ensures { result ≡ spec.slot_place slot }
 {
@@ -91,8 +91,8 @@ fn rows_of(alloc: Global, ordinals: &[OrdinalTerm]) -> Result<Vec<Vec<OrdinalTer
     Ok(rows)
 }
 
-/// The ordinals that lookups in a style's locales find, by their slots. Of those that agree in slot,
-/// match and gender, it has the first.
+/// The ordinals that lookups in a style's locales find, by their slots. Of those that agree in
+/// slot, match and gender, it has the first.
 #[derive(Drop)]
 pub struct OrdinalTable {
     rows: Vec<Vec<OrdinalTerm>>,

@@ -121,7 +121,8 @@ impl<'s> LocaleOrdinals<'s> {
         first_of(self.table.row(place), group, gender)
     }
 
-    /// The ordinal for a number: by a slot from 10 to 99, else by one from 0 to 9, else the default.
+    /// The ordinal for a number: by a slot from 10 to 99, else by one from 0 to 9, else the
+    /// default.
     fn ordinal_for(self, number: u32, gender: Option<GrammarGender>) -> Option<&'s OrdinalTerm>
         ensures { option_map (λ o. ordinal_view o.now) result ≡ spec.ordinal_for
             (spec.first_ordinals (map ordinals_of self.entry.locales.now)) number gender }
@@ -145,9 +146,9 @@ impl<'s> LocaleOrdinals<'s> {
         self.first_at(DEFAULT, OrdinalGroup::Slot(OrdinalSlot::Default), gender)
     }
 
-    /// The ordinal suffix of a number, whatever its sign: by a slot from 10 to 99, else by one from 0
-    /// to 9, else the default. In each group, one for the gender comes before a neutral one. It lives
-    /// as long as the locales.
+    /// The ordinal suffix of a number, whatever its sign: by a slot from 10 to 99, else by one from
+    /// 0 to 9, else the default. In each group, one for the gender comes before a neutral one. It
+    /// lives as long as the locales.
     pub fn suffix(self, number: i32, gender: Option<GrammarGender>) -> Option<&'s str>
         ensures { option_map (λ text. text.now) result
             ≡ ordinals (map ordinals_of self.entry.locales.now) number gender }

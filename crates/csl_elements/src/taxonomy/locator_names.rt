@@ -16,7 +16,8 @@ static LOCATORS: [Locator; 28] = each! {
 impl Locator {
     /// The kind of locator of this name, such as `sub-verbo`, if there is one.
     pub fn from_name(name: &str) -> Option<Locator>
-        ensures { (locator : Locator) → (result ≡ Some locator) ↔ (name.now ≡ locator_name locator) }
+        ensures { (locator : Locator) → (result ≡ Some locator)
+            ↔ (name.now ≡ locator_name locator) }
     {
         LOCATORS
             .iter()

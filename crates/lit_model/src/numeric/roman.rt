@@ -82,7 +82,8 @@ fn units(digit: u32) -> &'static str
 #[tactic(auto, using(csl_common::proofs::Writes::four_writes))]
 pub fn write_roman<S: Sink>(sink: &mut S, number: u32) -> fmt::Result
     requires { number < 4000 }
-    ensures ok { OnOk result (WritesInCalls S.write_str_gives sink.old (spec.roman number) sink.new) }
+    ensures ok { OnOk result
+        (WritesInCalls S.write_str_gives sink.old (spec.roman number) sink.new) }
     ensures kept { OnOk result (S.refused sink.new ≡ S.refused sink.old) }
     ensures err { OnErr result (S.refused sink.new ≡ true) }
 {
