@@ -6,6 +6,10 @@ from typing import Iterator, NamedTuple
 SPAN = re.compile(r"(?<!`)(`+)(?!`)(.+?)(?<!`)\1(?!`)")
 LINK = re.compile(r"!?\[((?:[^\[\]]|\[[^\[\]]*\])*)\]\(([^()\s]+)\)")
 HEADING = re.compile(r"(#+) +(.*)")
+# What begins a paragraph of its own: an item of a list, or a quotation.
+ITEM = re.compile(r"\A\s*(?:[-*>]|\d+\.) +")
+# The end of a sentence: before white space and what begins another one.
+END = re.compile(r"(?<=[.!?])[)*_”’\"]*\s+(?=[A-Z`*\[(“‘0-9])")
 
 
 class Line(NamedTuple):
@@ -56,6 +60,18 @@ class Document:
     def headings(self) -> set[str]:
         """The names by which links find the headings."""
         return {anchor_of(line.text) for line in self.lines if line.kind == "heading"}
+
+    def sentences(self) -> Iterator[tuple[int, str]]:
+        """The sentences outside of tables and code, each with the number of its first line."""
+        start, paragraph = 0, ""
+        for line in [*self.lines, Line(0, "heading", "")]:
+            ends = line.kind != "text" or not line.text.strip() or ITEM.match(line.text)
+            if ends and paragraph:
+                yield from ((start, it) for it in END.split(plain(paragraph)) if it.strip())
+                paragraph = ""
+            if line.kind == "text" and line.text.strip():
+                start = start if paragraph else line.number
+                paragraph += ITEM.sub("", line.text, count=1) + " "
 
     def blocks(self) -> Iterator[Quote]:
         """The fenced blocks of code."""
@@ -121,7 +137,29 @@ def cells_of(line: str) -> list[str]:
     return [cell.strip() for cell in re.split(r"(?<!\\)\|", line.strip().strip("|"))]
 
 
+def plain(text: str) -> str:
+    """A text as it is read: a link is its words, and what is in backquotes is one word."""
+    text = SPAN.sub(lambda found: f"`{re.sub(r'[^A-Za-z0-9]+', '_', found[2])}`", text)
+    return LINK.sub(r"\1", text).replace("**", "")
+
+
 def anchor_of(heading: str) -> str:
     """The name by which a link finds a heading."""
     words = LINK.sub(r"\1", heading.lstrip("# ")).lower()
     return re.sub(r"[^\w\- ]", "", words).strip().replace(" ", "-")
+
+
+def first_lacking(quoted: list[str], output: list[str]) -> int | None:
+    """Which of some quoted lines is not there in an output, if one is not: they have to be its
+    first lines, or after a line `..` any later ones, in their order."""
+    at, may_skip = 0, False
+    for number, line in enumerate(quoted):
+        if line.strip() == "..":
+            may_skip = True
+            continue
+        while may_skip and at < len(output) and output[at].rstrip() != line.rstrip():
+            at += 1
+        if at == len(output) or output[at].rstrip() != line.rstrip():
+            return number
+        at, may_skip = at + 1, False
+    return None
