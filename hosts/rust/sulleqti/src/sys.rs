@@ -35,7 +35,7 @@ fn outcome(status: c_int) -> Result<(), Error> {
     match status {
         0 => Ok(()),
         1 => Err(Error::Memory),
-        _ => Err(Error::Reply("a status that is known")),
+        _ => Err(Error::Reply("a known status")),
     }
 }
 
@@ -71,5 +71,17 @@ impl Drop for Handle {
     fn drop(&mut self) {
         // SAFETY: `self.0` is what `sulleqti_open` wrote. It is closed once, here.
         unsafe { sulleqti_close(&mut self.0) }
+    }
+}
+
+#[cfg(test)]
+mod tests {
+    use super::*;
+
+    /// The statuses of hosts/c/sulleqti.h, of which a caller of this crate meets two.
+    #[test]
+    fn statuses() {
+        let other = Err(Error::Reply("a known status"));
+        assert_eq!([0, 1, 4].map(outcome), [Ok(()), Err(Error::Memory), other]);
     }
 }
