@@ -207,7 +207,8 @@ impl Reader<'_> {
         let mut text = String::new();
         loop {
             let rest = &self.text[self.at..];
-            let plain = rest.find(|c| c < ' ' || c == '"' || c == '\\').unwrap_or(rest.len());
+            let is_marked = |byte| byte < b' ' || byte == b'"' || byte == b'\\';
+            let plain = rest.bytes().position(is_marked).unwrap_or(rest.len());
             text.push_str(&rest[..plain]);
             self.at += plain;
             match self.next() {
