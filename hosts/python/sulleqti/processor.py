@@ -9,9 +9,10 @@ import os
 import shutil
 import subprocess
 import threading
-from typing import Any, Deque, Dict, List, Sequence, Tuple, Union
+from typing import Any, Deque, Dict, Iterable, List, Sequence, Tuple, Union
 
 from sulleqti.attributes import Tree, rendered
+from sulleqti.citations import Citation
 from sulleqti.document import Refused
 from sulleqti.locales import locale_of
 from sulleqti.styles import Style
@@ -237,7 +238,14 @@ class Document:
         self.citations.append({"items": items, **({"note-number": note} if note else {})})
         return len(self.citations) - 1
 
-    def render(self, uncited: Sequence[str] = ()) -> RenderedDocument:
+    def cite_all(self, citations: Iterable[Citation]) -> None:
+        """Adds citations, as `citations_of` reads them. In a note style one without the number of a
+        note has that of its place among all citations, from 1 on."""
+        is_note = self.works.style.source.tree.get("class") == "note"
+        for it in citations:
+            self.citation(it.cites, it.note or (len(self.citations) + 1 if is_note else None))
+
+    def render(self, uncited: Iterable[str] = ()) -> RenderedDocument:
         """The citations, and the bibliography, which has the works that are cited, and these."""
         style, prefix = self.works.style, self.works.prefix
         found = style.processor.ask("document", style=style.name, citations=self.citations,
