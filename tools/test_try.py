@@ -162,6 +162,7 @@ LONG_NAMES = ["x" * 1_000_000 + str(it) for it in range(10)]
 # Macros that each call the next one twice.
 DOUBLED = "".join(f'<macro name="m{it}">{f"""<text macro="m{it + 1}"/>""" * 2}</macro>' for it in range(40))
 DOUBLED += '<macro name="m40"/>'
+UNPROVED = "tools/try: csl_serve is not proved here; ./test proves it"
 # Words that are wrong, and what is told of them.
 WORDS = [
     ([], "the following arguments are required: style"),
@@ -233,7 +234,7 @@ class TrialTests:
         wanted = f"w{OF_BOOK[1:]}{OF_BOOK}"
         self.row("an item with two faults", self.of_items([item, BOOK]), (1, wanted, told))
         style = f"{STYLES}/author_year.csl"
-        given = self.tried(style, self.items([{**item, "id": it} for it in range(30)]), "--more")[2]
+        given = self.faults(style, self.items([{**item, "id": it} for it in range(30)]))[2]
         self.row("many wrong items", given[50:], ["10 more faults"])
 
     def test_item_files(self) -> None:
@@ -262,7 +263,7 @@ class TrialTests:
     def faults(self, *words: str, **how: Any) -> tuple[int, str, list[str]]:
         """What the tool prints, without the first works together, and what it tells with --more."""
         status, text, faults = self.tried(*words, "--more", **how)
-        return status, text.split("The first")[0], faults
+        return status, text.split("The first")[0], [it for it in faults if it != UNPROVED]
 
     def test_trial_words(self) -> None:
         """Words that the tool refuses, and its help."""
@@ -326,10 +327,10 @@ class TrialTests:
         wanted = (1, "b\n  Tpage\n", [f"{style}: left out: 3 things, in 3 places (--more says what)"])
         self.row("one line", told, wanted)
         told = self.tried(style, path, "--more")[2]
-        wanted = ["words are missing that the library has no term for: 1 place (the term `hook`)",
+        wanted = [UNPROVED, "words are missing that the library has no term for: 1 place (the term `hook`)",
                   "markup inside of titles is dropped: 1 place (markup in texts)",
                   f"{path}:1: b: `titel`: the variable is unknown (is it `title`?)"]
-        self.row("each thing", told, wanted)
+        self.row("each thing", sorted(told), sorted(wanted))
 
     def test_page(self) -> None:
         """A web page: texts are escaped, and only web addresses are links."""

@@ -1,6 +1,6 @@
 """What the library leaves out of a style or of works, in words of what a reader will see."""
+import collections
 import re
-from typing import Counter
 
 # What is seen, and the names of what is left out. What matters first comes first.
 SEEN = (
@@ -17,10 +17,13 @@ SEEN = (
     ("slanted text is italic", "`font-style` oblique .*"),
     ("names are in the order of the style", "`static-ordering`"),
     ("line breaks and other control characters are spaces", "line breaks .*"),
+    ("ranges of dates have no delimiter of their own", "`range-delimiter`"),
+    ("words of other languages are not used", "`locale` of another language"),
+    ("ordinals have one form", "`form`"),
+    ("terms are missing that no style can name", "terms of locales .*"),
 )
-# What is not seen: words of other languages, a form of an ordinal, terms that no style names, and
-# the delimiter of a range, which is cut.
-UNSEEN = {"`locale` of another language", "`form`", "`range-delimiter`",
+# What nobody sees: CSL has no other meaning of these, or no style names them.
+UNSEEN = {"`range-delimiter`", "`locale` of another language", "`form`",
           "terms of locales that the library does not name"}
 # The most names on a line.
 MOST_NAMES = 5
@@ -31,23 +34,26 @@ def places(count: int) -> str:
     return f"{count} {'place' if count == 1 else 'places'}"
 
 
-def lines(left: Counter[str]) -> list[str]:
-    """A line for each thing that is seen, with how often it is there and its names in CSL. What
-    matters first comes first."""
+def lines(left: collections.Counter) -> list[str]:
+    """A line for each thing that is seen, with how often it is there and its names in CSL. What matters first
+    comes first."""
     found, rest = [], {name: count for name, count in left.items() if count}
     for seen, names in (*SEEN, ("left out", ".*")):
         own = {name: count for name, count in rest.items() if re.fullmatch(names, name, re.DOTALL)}
-        rest = {name: count for name, count in rest.items() if name not in own}
-        own = {name: count for name, count in own.items() if name not in UNSEEN}
         if own:
+            rest = {name: count for name, count in rest.items() if name not in own}
             names = [*own][:MOST_NAMES] + [f"and {len(own) - MOST_NAMES} more"] * (len(own) > MOST_NAMES)
             found.append(f"{seen}: {places(sum(own.values()))} ({', '.join(names)})")
     return found
 
 
-def summary(left: Counter[str], faults: list[str]) -> str:
-    """How much is left out that is seen, and how much is wrong, in a few words."""
-    counts = [count for name, count in left.items() if count and name not in UNSEEN]
-    counts += [1] * len(faults)
+def seen(left: collections.Counter) -> collections.Counter:
+    """What is left out that is seen."""
+    return collections.Counter({name: it for name, it in left.items() if it and name not in UNSEEN})
+
+
+def summary(left: collections.Counter, faults: list[str]) -> str:
+    """How much is left out, and how much is wrong, in a few words."""
+    counts = [*left.values(), *(1 for _ in faults)]
     things = f"{len(counts)} {'thing' if len(counts) == 1 else 'things'}"
     return f"{things}, in {places(sum(counts))}"
