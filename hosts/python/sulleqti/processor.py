@@ -42,8 +42,8 @@ class Content:
 
 class Processor:
     """A `csl_serve`: the program or command that is given, or that of the variable SULLEQTI_SERVE,
-    or the one in this package, if it is of a release, or the one on PATH. A request may take `timeout` seconds. Threads may share it: it has one
-    request on its way at a time."""
+    or the one in this package, if it is of a release, or the one on PATH. A request may take
+    `timeout` seconds. Threads may share it: it has one request on its way at a time."""
 
     def __init__(self, program: Union[str, Sequence[str], None] = None,
                  timeout: float = 60.0) -> None:
