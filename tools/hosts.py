@@ -35,12 +35,16 @@ def good_requests() -> tuple[list[str], list[tuple[str, str]]]:
 class AsProved(Program):
     """A crate's program, compiled like a proved one: with run-time checks a style takes seconds."""
 
-    def built(self, work: Work) -> str:
-        """The program, built from a copy of the sources."""
+    def laid_out(self, work: Work) -> str:
+        """The crate, in a copy of the sources."""
         to = f"{work.room}/checkout"
         shutil.copytree(f"{TOP}/crates", f"{to}/crates", ignore=shutil.ignore_patterns("out"))
         shutil.copy(f"{TOP}/crates.txt", to)
-        crate = f"{to}/crates/{self.name}"
+        return f"{to}/crates/{self.name}"
+
+    def built(self, work: Work) -> str:
+        """The program, built from a copy of the sources."""
+        crate = self.laid_out(work)
         given = compiled(crate, work.room, run=work.run).bitcode
         if not given:
             raise Failure("this kit leaves no bitcode")

@@ -7,12 +7,10 @@ import shutil
 from typing import Any
 
 from csl_source import library
-from csl_source.cites import citations
-from csl_source.items import items as read_items
 from csl_source.page import rules
 from kit import TOP, read
 from programs import Program
-from sulleqti.document import LARGE, Refused
+from sulleqti import Refused, citations_of, works_of
 from testing import ran, ran_on_full_disk
 
 STYLES = "tools/samples"
@@ -20,9 +18,10 @@ STYLES = "tools/samples"
 BOOK = {"id": "b", "type": "book", "title": "T", "author": [{"family": "Ode"}],
         "issued": {"date-parts": [[2014]]}}
 OF_BOOK = "b\n  (Ode, 2014)\n  Ode (2014). T.\n"
-# A style that prints titles.
+# A style that prints titles, and what it prints them by.
 OF_TITLES = """<style xmlns="http://purl.org/net/xbiblio/csl" version="1.0" class="in-text"><info/><citation>
 <layout delimiter="; "><text variable="title" font-style="italic"/></layout></citation></style>"""
+TITLE = '<text variable="title" font-style="italic"/>'
 # Variables of an item of its own, with the line of the bibliography.
 RIGHT = [
     ({"issued": {"date-parts": [["2014", "5"]]}}, "Ode (2014). T."),
@@ -160,30 +159,18 @@ WRONG_CITES = [
 ]
 # Names of variables, each a megabyte long.
 LONG_NAMES = ["x" * 1_000_000 + str(it) for it in range(10)]
-# Styles in rows that cost the most, and what is told of them: macros that each call the next, or twice.
-CHAIN = " ".join(f"(macro name=m{it} (text macro=m{it + 1}))" for it in range(1_800))
-DOUBLED = " ".join(f"(macro name=m{it} {f'(text macro=m{it + 1}) ' * 2})" for it in range(40))
-KEY = "(citation title) (sort citation (key macro=m0))"
-DEEP, WIDE = "lists are more than 200 levels deep", "a list has more than 100 attributes"
-COSTLY = [
-    *((f"{macros} {last}", "the style is too large")
-      for macros in (CHAIN, DOUBLED) for last in ("(citation (text macro=m0))", KEY)),
-    (f"{CHAIN} {CHAIN}", f"as rows it has {LARGE}"),
-    (f"(citation '{'a' * 1_000_000}')", "more than 1 MB: leave only the line `base`"),
-    (f"(citation {'(group ' * 199}title{')' * 200}", "the style is too large"),
-    (f"(citation {'(group ' * 200}title{')' * 201}", DEEP),
-    (f"(citation {'(group ' * 9_000}", DEEP),
-    (f"(citation {' '.join(f'a{it}=' for it in range(9_000))})", WIDE),
-]
+# Macros that each call the next one twice.
+DOUBLED = "".join(f'<macro name="m{it}">{f"""<text macro="m{it + 1}"/>""" * 2}</macro>' for it in range(40))
+DOUBLED += '<macro name="m40"/>'
+UNPROVED = "tools/try: csl_serve is not proved here; ./test proves it"
 # Words that are wrong, and what is told of them.
 WORDS = [
-    ([], "a style is missing"),
-    (["a.csl", "b.json", "c"], "one word too many: c"),
-    (["a.csl", "--colour"], "there is no option --colour"),
-    (["a.csl", "--list=no"], "there is no option --list=no"),
-    (["a.csl", "--locale"], "--locale needs a word after it"),
-    (["a.csl", "--html="], "--html needs a word after it"),
-    (["a.rows", "--locale", "de-DE"], "--locale goes with a CSL file; rows have default-locale"),
+    ([], "the following arguments are required: style"),
+    (["a.csl", "b.json", "c"], "unrecognized arguments: c"),
+    (["a.csl", "--colour"], "unrecognized arguments: --colour"),
+    (["a.csl", "--list=no"], "argument --list: ignored explicit argument 'no'"),
+    (["a.csl", "--locale"], "argument --locale: expected one argument"),
+    (["a.csl", "--html="], "an option lacks its word"),
     ([f"{STYLES}/footnotes.csl", "--html", f"{STYLES}/footnotes.csl"],
      f"--html would write over {STYLES}/footnotes.csl"),
 ]
@@ -216,7 +203,7 @@ class TrialTests:
     def read(self, path: str) -> tuple[list[str], list[str]]:
         """What is read of a file: the `id` of each item, and what is told without the name of the file."""
         try:
-            works, faults = read_items(path, collections.Counter())
+            works, faults = works_of(path, collections.Counter())
         except Refused as why:
             works, faults = [], [str(why)]
         return [it.id for it in works], [it.removeprefix(path).replace(path, "FILE") for it in faults]
@@ -225,7 +212,7 @@ class TrialTests:
         """What is printed of these items, without year suffixes, and what is told of the file."""
         path, style = self.items(items), read(f"{STYLES}/author_year.csl")
         style = self.file("author_year.csl", style.replace('disambiguate-add-year-suffix="true"', ""))
-        status, text, faults = self.tried(style, path, *words)
+        status, text, faults = self.tried(style, path, "--more", *words)
         faults = [it.removeprefix(path) for it in faults if it.startswith(path)]
         return status, text.split("The first")[0], faults
 
@@ -246,7 +233,9 @@ class TrialTests:
         told = [":4: w: the type `a` is unknown", ":8: w: `titel`: the variable is unknown (is it `title`?)"]
         wanted = f"w{OF_BOOK[1:]}{OF_BOOK}"
         self.row("an item with two faults", self.of_items([item, BOOK]), (1, wanted, told))
-        self.row("many wrong items", len(self.of_items([item] * 30)[2]), 21)
+        style = f"{STYLES}/author_year.csl"
+        given = self.faults(style, self.items([{**item, "id": it} for it in range(30)]))[2]
+        self.row("many wrong items", given[50:], ["10 more faults"])
 
     def test_item_files(self) -> None:
         """Files of items that are no JSON, or too large, or not there. What is right before a fault is
@@ -256,7 +245,7 @@ class TrialTests:
             given = self.read(self.file("items.json", content))
             self.row(f"the file {content[:30]!r}", given[1], [why])
         path = self.file("items.json", "[]")
-        self.row("no items", self.faults(style, path), (1, "", [f"{path}: no items"]))
+        self.row("no items", self.faults(style, path), (2, "", [f"{path}: no items"]))
         path = self.file("items.json", json.dumps([BOOK])[:-1] + ", {]")
         told = [f"{path}:1: no JSON: Expecting property name enclosed in double quotes"]
         self.row("a fault in the second item", self.faults(style, path), (1, OF_BOOK, told))
@@ -267,19 +256,14 @@ class TrialTests:
         large = "more than 32 MB: take fewer items"
         for it, why in (path, large), ("/dev/zero", large), (f"{path}.no", "No such file or directory"), \
                 (self.room, "Is a directory"):
-            self.row(f"the file {it}", self.faults(style, it), (1, "", [f"{it}: {why}"]))
-        for it in "no.csl", "no.rows":
-            self.row(f"the style {it}", self.faults(it), (1, "", [f"{it}: No such file or directory"]))
-        path = self.file("none.rows", "layout title\n")
-        self.row("rows without a style", self.faults(path), (1, "", [f"{path}: no line `base` with a style"]))
-        path = self.file("wrong.rows", "base (citation (text variabel=title))\n")
-        self.row("rows with a fault", self.faults(path), (1, "", [f"{path}: no such attribute here: variabel"]))
+            self.row(f"the file {it}", self.faults(style, it), (2, "", [f"{it}: {why}"]))
+        told = ["no.csl: No such file or directory"]
+        self.row("no style", self.faults("no.csl"), (2, "", told))
 
     def faults(self, *words: str, **how: Any) -> tuple[int, str, list[str]]:
-        """What the tool prints, and what it tells beside what is left out."""
-        status, text, faults = self.tried(*words, **how)
-        left_out = re.compile(": left out: ")
-        return status, text.split("The first")[0], [it for it in faults if not left_out.search(it)]
+        """What the tool prints, without the first works together, and what it tells with --more."""
+        status, text, faults = self.tried(*words, "--more", **how)
+        return status, text.split("The first")[0], [it for it in faults if it != UNPROVED]
 
     def test_trial_words(self) -> None:
         """Words that the tool refuses, and its help."""
@@ -292,18 +276,14 @@ class TrialTests:
             self.row(f"a full disk: tools/try {words}", given, (1, "tools/try: No space left on device"))
 
     def test_locales(self) -> None:
-        """The language of the library that the style names, another one, that of a file, and those of
-        rows."""
+        """The language of the library that the style names, another one, and that of a file."""
         style, path = f"{STYLES}/bracketed.csl", self.file("items.json", json.dumps([{**BOOK, "edition": 2}]))
         for words, wanted in ([], "2nd ed."), (["--locale", "de-DE"], "2. Aufl."), (["--locale=fr"], "2ᵉ éd."), \
                 (["--locale", "tools/style_tests/fr.xml"], "2e éd."):
             line = self.faults(style, path, *words)[1].splitlines()[-1]
             self.row(f"a language: {words}", line, f"  [1] Ode, T, {wanted}, 2014.")
         why = f"da-DK: the library has {', '.join(library.languages())}: of another language give the locale's file"
-        self.row("no such language", self.faults(style, path, "--locale", "da-DK"), (1, "", [why]))
-        rows = ran([f"{TOP}/tools/style", "--rows", style])[1]
-        given = self.faults(self.file("style.rows", rows), path)
-        self.row("a style in rows", given, (0, "b\n  [1]\n  [1] Ode, T, 2nd ed., 2014.\n", []))
+        self.row("no such language", self.faults(style, path, "--locale", "da-DK"), (2, "", [why]))
 
     def test_sorted(self) -> None:
         """The order of a style: by names without accents, then by dates. What has no key comes last."""
@@ -314,7 +294,7 @@ class TrialTests:
         for words, found in ([], r"^(\S+)$"), (["--list"], r"^(\S+)\n  .*\n(?=\S|$)"):
             text = self.of_items(items, *words)[1]
             self.row(f"sorted works: {words}", re.findall(found, text, re.M), wanted)
-        path = self.file("none.rows", "base (citation title)\n")
+        path = self.file("none.csl", OF_TITLES)
         self.row("a style without a bibliography", self.faults(path, "--list"), (0, "", []))
 
     def test_cites(self) -> None:
@@ -329,22 +309,28 @@ class TrialTests:
         self.row("the list after cites", listed, "a\n  Ode (2014). T.\nb\n  Poe (2015). T.\n")
         path = self.file("cites.json", json.dumps([it for it, _ in WRONG_CITES]))
         told = [f"{path}: citation {place}: {why}" for place, (_, why) in enumerate(WRONG_CITES, 1)]
-        self.row("wrong cites", citations(path, {"a", "b"})[1], told)
+        self.row("wrong cites", citations_of(path, {"a", "b"})[1], told)
         status, text, faults = self.faults(*words, path)
         self.row("wrong cites are told", (status, faults, text[-19:]), (1, told, "b\n  Poe (2015). T.\n"))
         for content, why in ("{", "no JSON: Expecting property name enclosed in double quotes: line 1 column 2 (char 1)"), \
                 ("{}", 'no list of citations, as [[{"id": "kwan"}]]'):
             path = self.file("cites.json", content)
-            self.row(f"the citations {content}", self.faults(*words, path), (1, "", [f"{path}: {why}"]))
+            self.row(f"the citations {content}", self.faults(*words, path), (2, "", [f"{path}: {why}"]))
 
     def test_more(self) -> None:
-        """What is left out: one line, or each thing in its own."""
-        style = f"{STYLES}/bracketed.csl"
-        path = self.file("items.json", json.dumps([{**BOOK, "title": "<b>T</b>"}]))
-        told = self.tried(style, path)[2]
-        self.row("one line", told, [f"{style}: left out: 1 thing, in 1 place (--more says what)"])
+        """What is left out: one line, or each thing in its own. A term is told if the library does not name it, and not
+        if no locale has it."""
+        terms = "".join(f'<text term="{it}"/>' for it in ("author", "hook", "page"))
+        style = self.file("titles.csl", OF_TITLES.replace(TITLE, TITLE + terms))
+        path = self.file("items.json", json.dumps([{**BOOK, "title": "<b>T</b>", "titel": 1}]))
+        told = self.tried(style, path)
+        wanted = (1, "b\n  Tpage\n", [f"{style}: left out: 3 things, in 3 places (--more says what)"])
+        self.row("one line", told, wanted)
         told = self.tried(style, path, "--more")[2]
-        self.row("each thing", told, [f"{style}: markup inside of titles is dropped: 1 place (markup in texts)"])
+        wanted = [UNPROVED, "words are missing that the library has no term for: 1 place (the term `hook`)",
+                  "markup inside of titles is dropped: 1 place (markup in texts)",
+                  f"{path}:1: b: `titel`: the variable is unknown (is it `title`?)"]
+        self.row("each thing", sorted(told), sorted(wanted))
 
     def test_page(self) -> None:
         """A web page: texts are escaped, and only web addresses are links."""
@@ -360,9 +346,12 @@ class TrialTests:
         self.row("the title of the page", re.findall("<h1>(.*)</h1>", text), ["Author and year"])
         self.tried(f"{STYLES}/bracketed.csl", "--html", file)
         self.row("numbers beside lines", read(file).count('<div class="entry columns"><div>['), 8)
+        self.row("a width of numbers", "first-child { flex: none; min-width: 3ch;" in read(file), True)
+        self.tried(f"{STYLES}/bracketed.csl", "--list", "--html", file)
+        self.row("the list alone", re.findall("<h2>(.*)</h2>", read(file)), ["References"])
         for it, why in ("/dev/full", "No space left on device"), (f"{self.room}/no/no", "No such file or directory"):
             told = self.faults(f"{STYLES}/bracketed.csl", "--html", it)
-            self.row(f"the page {it}", (told[0], told[2]), (1, [f"{it}: {why}"]))
+            self.row(f"the page {it}", (told[0], told[2]), (2, [f"{it}: {why}"]))
 
     def test_hostile_page(self) -> None:
         """The page of a work that turns the direction of writing, with the rules of page.rt."""
@@ -385,12 +374,6 @@ class TrialTests:
         self.row("half of a character", text.splitlines()[-1], "  Ode (2014). \ufffd.")
         self.row("no control characters", set(re.findall("[\0-\x1f\x7f-\x9f\u202e\u2028]", text)), {"\n"})
 
-    def test_missing(self) -> None:
-        """A macro and a term that are missing are told."""
-        path = self.file("missing.rows", 'base (citation title (text macro=no) (text term=in))\n')
-        told = [f"{path}: the {it} is missing: it prints nothing" for it in ("term `in`", "macro `no`")]
-        self.row("what is missing", self.faults(path)[2], told)
-
     def test_hostile_sizes(self) -> None:
         """Files that cost the most, each of which may cost five seconds of a core."""
         style, path = f"{STYLES}/author_year.csl", f"{self.room}/hostile.json"
@@ -402,13 +385,10 @@ class TrialTests:
         told = [f"{path}:{line}: b: `{'x' * 60}..`: the variable is unknown"
                 for line in range(18, 28)]
         self.row("long names", self.cheap(style, path), (1, OF_BOOK, told))
-        path = self.file("hostile.json", json.dumps([{**BOOK, "title": "x" * 5_000}]))
-        rows = self.file("hostile.rows", f"base (citation {'title ' * 400})\n")
-        told = [f"{rows}: it would write too many bytes"]
-        self.row("two million bytes", self.cheap(rows, path), (1, "", told))
-        for base, why in COSTLY:
-            path = self.file("hostile.rows", f"base {base}\n")
-            self.row(f"costly rows: {base[-99:]}", self.cheap(path), (1, "", [f"{path}: {why}"]))
+        for macros, text in (DOUBLED, '<text macro="m0"/>'), ("", '<text term="in"/>' * 3_000):
+            path = self.file("hostile.csl", OF_TITLES.replace("<citation>", f"{macros}<citation>").replace(TITLE, text))
+            told = [f"{path}:1: the style renders more than is allowed"]
+            self.row(f"a costly style: {text[:50]}", self.cheap(path), (2, "", told))
 
     def cheap(self, *words: str) -> tuple[int, str, list[str]]:
         """What `faults` gives of a call that may cost five seconds of a core."""
@@ -481,10 +461,9 @@ class TrialTests:
         """Many items, whose cost may not grow with the square of their number."""
         many = json.dumps([{**BOOK, "id": it} for it in range(20_000)], indent=1)
         self.row("many items are read", len(self.read(self.file("many.json", many))[0]), 20_000)
-        path = self.file("many.json", json.dumps([{**BOOK, "id": it} for it in range(100)]))
-        # (it takes three seconds of a core)
-        status, text, _ = self.tried(f"{STYLES}/author_year.csl", path, seconds=20)
-        self.row("many items are printed", (status, len(re.findall(r"\n  Ode \(2014\w+\)\. T\.", text))), (0, 100))
+        path = self.file("many.json", json.dumps([{**BOOK, "id": it} for it in range(1_000)]))
+        status, text, _ = self.tried(f"{STYLES}/author_year.csl", path, seconds=5)
+        self.row("many items are printed", (status, len(re.findall(r"\n  Ode \(2014\w+\)\. T\.", text))), (0, 1_000))
 
     def all_of_trials(self) -> None:
         """All of these tests."""
@@ -499,7 +478,6 @@ class TrialTests:
         self.test_hostile_page()
         self.test_hostile_items()
         self.test_hostile_sizes()
-        self.test_missing()
         self.test_compare_pandoc()
         self.test_compare_csl()
         self.test_no_kit()

@@ -22,6 +22,9 @@ SEEN = (
     ("ordinals have one form", "`form`"),
     ("terms are missing that no style can name", "terms of locales .*"),
 )
+# What nobody sees: CSL has no other meaning of these, or no style names them.
+UNSEEN = {"`range-delimiter`", "`locale` of another language", "`form`",
+          "terms of locales that the library does not name"}
 # The most names on a line.
 MOST_NAMES = 5
 
@@ -44,7 +47,13 @@ def lines(left: collections.Counter) -> list[str]:
     return found
 
 
-def summary(left: collections.Counter) -> str:
-    """How much is left out, in a few words."""
-    names = [name for name, count in left.items() if count]
-    return f"{len(names)} {'thing' if len(names) == 1 else 'things'}, in {places(sum(left.values()))}"
+def seen(left: collections.Counter) -> collections.Counter:
+    """What is left out that is seen."""
+    return collections.Counter({name: it for name, it in left.items() if it and name not in UNSEEN})
+
+
+def summary(left: collections.Counter, faults: list[str]) -> str:
+    """How much is left out, and how much is wrong, in a few words."""
+    counts = [*left.values(), *(1 for _ in faults)]
+    things = f"{len(counts)} {'thing' if len(counts) == 1 else 'things'}"
+    return f"{things}, in {places(sum(counts))}"

@@ -1,16 +1,19 @@
 """A reference list as a whole web page, with the looks of csl_uses' `page.rt`: texts are escaped,
 only web addresses are links, and there are no direction controls."""
-import functools
 import glob
 import html
+import os
 import re
-from typing import Mapping
+from typing import Any
 
-from kit import TOP, read
+from kit import TOP, Failure, read
+from sulleqti import Entry, Refused, Style
+from sulleqti.processor import RenderedDocument
 
 # The rules of page.rt come first. A line in columns is a flex box, whose first field keeps its
-# width. An author, a title and an address that have an element are each isolated, so a letter in
-# one of them that is written from right to left turns nothing else.
+# width, so all second fields begin at one place. An author, a title and an address that have an
+# element are each isolated, so a letter in one of them that is written from right to left turns
+# nothing else.
 PAGE = """<!doctype html>
 <html lang="{language}">
 <head>
@@ -22,7 +25,7 @@ p {{ margin: 0.3em 0; overflow-wrap: anywhere; }}
 {rules}.entry {{ margin: {spacing}em 0; line-height: {lines}; }}
 .entry.hanging {{ padding-left: 2em; text-indent: -2em; }}
 .entry.columns {{ display: flex; gap: 1em; }}
-.entry.columns > div:first-child {{ flex: none; max-width: 50%; }}
+.entry.columns > div:first-child {{ flex: none; min-width: {width}ch; max-width: 50%; }}
 b, span, a {{ unicode-bidi: isolate; }}
 </style>
 </head>
@@ -31,47 +34,62 @@ b, span, a {{ unicode-bidi: isolate; }}
 {body}</body>
 </html>
 """
-
+# The first field of a line whose fields the library sets apart itself. Its columns are floats.
+FLOAT = re.compile('<div style="float: left;">(.*?)</div>', re.S)
+# The most letters of a first field that make all of them wider.
+WIDEST = 12
 # The characters that turn the direction of writing until another one ends that, and such ends. An
 # end also closes the isolate of an element.
 DIRECTION_CONTROLS = re.compile("[\u202a-\u202e\u2066-\u2069]")
 
 
-@functools.cache
 def rules() -> str:
     """The rules of page.rt for the looks of a page."""
     for path in glob.glob(f"{TOP}/crates/*/src/page.rt"):
         found = re.search(r"<style>\n(.*?)</style>", read(path), re.S)
         if found:
             return found[1]
-    raise SystemExit("tools/try: no page.rt has rules for the looks of a page")
+    raise Failure("no page.rt has rules for the looks of a page")
 
 
-def entry(line: list[str], is_hanging: bool) -> str:
+def first_of(line: Entry) -> str:
+    """The first field of a line, as HTML, or nothing."""
+    apart = FLOAT.match(line.html)
+    return line.first_field.html if line.first_field else apart[1] if apart else ""
+
+
+def entry(line: Entry, is_hanging: bool) -> str:
     """A line of the bibliography."""
-    # (the library's own columns are floats)
-    is_in_columns = len(line) > 1 or "float: left" in line[0]
-    sort = " columns" if is_in_columns else " hanging" if is_hanging else ""
-    inside = line[0] if len(line) == 1 else "".join(f"<div>{it}</div>" for it in line)
+    first, inside = line.first_field, line.html
+    if first:
+        inside = f"<div>{first.html}</div><div>{inside}</div>"
+    sort = " columns" if first_of(line) else " hanging" if is_hanging else ""
     return f'<div class="entry{sort}">{inside}</div>\n'
 
 
-def number(text: str, default: float) -> float:
-    """A number of the style, if it is no larger than a page can show."""
-    return min(int(text), 10) if re.fullmatch(r"\d+", text) else default
-
-
-def page(title: str, language: str, looks: Mapping[str, str], cited: list[tuple[str, str]],
-         lines: list[list[str]]) -> str:
-    """The page of these citations, each with a name, and of these lines of the bibliography. `looks` says how
-    that looks."""
+def page(style: Style, cited: list[tuple[str, str]], done: RenderedDocument) -> str:
+    """The page of these citations, each with a name, and of the bibliography of a document. It
+    shows no space that is larger than ten lines."""
     body = "<h2>Cites</h2>\n" if cited else ""
-    body += "".join(f"<p>{f'<b>{html.escape(name)}</b>: ' if name else ''}{it}</p>\n" for name, it in cited)
-    body += "<h2>References</h2>\n" if lines else ""
-    is_hanging = looks.get("hanging-indent") == "true"
-    body += "".join(entry(it, is_hanging) for it in lines)
+    body += "".join(f"<p>{f'<b>{html.escape(name)}</b>: ' if name else ''}{it}</p>\n"
+                    for name, it in cited)
+    body += "<h2>References</h2>\n" if done.bibliography else ""
+    body += "".join(entry(it, done.looks["hanging-indent"]) for it in done.bibliography)
+    widths = [len(html.unescape(re.sub("<[^>]*>", "", first_of(it)))) for it in done.bibliography]
+    spaces = {name: min(done.looks.get(name, 1), 10) for name in ("entry-spacing", "line-spacing")}
+    title = style.title or os.path.basename(style.path)
     text = PAGE.format(
-        language=html.escape(language), title=html.escape(title), body=body, rules=rules(),
-        spacing=0.3 + 0.5 * number(looks.get("entry-spacing", ""), 1),
-        lines=1.4 * max(1, number(looks.get("line-spacing", ""), 1)))
+        language=html.escape(style.language), title=html.escape(title), body=body, rules=rules(),
+        spacing=0.3 + 0.5 * spaces["entry-spacing"], lines=1.4 * max(1, spaces["line-spacing"]),
+        width=min(max(widths, default=0), WIDEST))
     return DIRECTION_CONTROLS.sub("", text)
+
+
+def write_page(path: str, *of_page: Any) -> None:
+    """Writes a page."""
+    text = page(*of_page)
+    try:
+        with open(path, "w", encoding="utf-8", errors="replace") as file:
+            file.write(text)
+    except OSError as why:
+        raise Refused(f"{path}: {why.strerror}") from None

@@ -5,11 +5,12 @@
 >>> works, faults = sulleqti.works_of("items.json", style.left)       # doctest: +SKIP
 """
 from sulleqti.attributes import Tree, rendered
+from sulleqti.citations import Citation, citations_of
 from sulleqti.document import Refused
 from sulleqti.locales import locale_of
 from sulleqti.processor import Content, Document, Entry, Processor, ServerEnded
 from sulleqti.styles import Style
 from sulleqti.works import Work, works_of
 
-__all__ = ["Content", "Document", "Entry", "Processor", "Refused", "ServerEnded", "Style", "Tree",
-           "Work", "locale_of", "rendered", "works_of"]
+__all__ = ["Citation", "Content", "Document", "Entry", "Processor", "Refused", "ServerEnded",
+           "Style", "Tree", "Work", "citations_of", "locale_of", "rendered", "works_of"]

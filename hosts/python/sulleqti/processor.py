@@ -3,20 +3,24 @@ from __future__ import annotations
 
 import collections
 import dataclasses
+import hashlib
 import itertools
 import json
 import os
 import shutil
 import subprocess
 import threading
-from typing import Any, Deque, Dict, List, Sequence, Tuple, Union
+from typing import Any, Deque, Dict, Iterable, List, Sequence, Tuple, Union
 
 from sulleqti.attributes import Tree, rendered
+from sulleqti.citations import Citation
 from sulleqti.document import Refused
 from sulleqti.locales import locale_of
 from sulleqti.styles import Style
 from sulleqti.works import Work, works_of
 
+# The program of a release, in this package, and what is said of a program in a file beside it.
+RELEASED, FACTS = os.path.join(os.path.dirname(os.path.abspath(__file__)), "csl_serve"), ".json"
 # The most lines of its standard error that are told, and the most works of a request.
 MOST_LINES, MOST_WORKS = 20, 1_000
 FORMATS = ["plain", "html", "tree"]
@@ -38,14 +42,16 @@ class Content:
 
 class Processor:
     """A `csl_serve`: the program or command that is given, or that of the variable SULLEQTI_SERVE,
-    or the one on PATH. A request may take `timeout` seconds. Threads may share it: it has one
-    request on its way at a time."""
+    or the one in this package, if it is of a release, or the one on PATH. A request may take
+    `timeout` seconds. Threads may share it: it has one request on its way at a time."""
 
     def __init__(self, program: Union[str, Sequence[str], None] = None,
                  timeout: float = 60.0) -> None:
-        found = program or os.environ.get("SULLEQTI_SERVE") or shutil.which("csl_serve")
+        found = program or os.environ.get("SULLEQTI_SERVE") or shutil.which(RELEASED)
+        found = found or shutil.which("csl_serve")
         if not found:
             raise FileNotFoundError("there is no csl_serve on PATH, and SULLEQTI_SERVE names none")
+        self.program = found if isinstance(found, str) else found[0]
         self.timeout, self.is_late, self.names = timeout, False, itertools.count(1)
         self.lock, self.said = threading.Lock(), collections.deque(maxlen=MOST_LINES)
         self.process = subprocess.Popen([found] if isinstance(found, str) else list(found),
@@ -110,6 +116,19 @@ class Processor:
                 raise ServerEnded(f"csl_serve did not answer in {self.timeout:g} seconds"
                                   if self.is_late else f"csl_serve ended with {status}: {told}")
         return answer_of(json.loads(answer))
+
+    def hello(self) -> Tree:
+        """What the program tells of itself (docs/HOSTS.md). Of a release that has the `commit` and
+        the `kit` that proved the program, which a file beside it says, and its sum."""
+        try:
+            with open(self.program, "rb") as file:
+                sum = hashlib.sha256(file.read()).hexdigest()
+            with open(self.program + FACTS, encoding="utf-8") as file:
+                facts = json.load(file)
+        except OSError:
+            return self.ask("hello")
+        # (of another program the file says nothing)
+        return {**self.ask("hello"), **(facts if facts["sha256"] == sum else {})}
 
     def style(self, path: str, locale: str | None = None) -> ProcessorStyle:
         """The style of a file, in a language as `en-GB`, or that of a locale file, or its own. It
@@ -237,7 +256,14 @@ class Document:
         self.citations.append({"items": items, **({"note-number": note} if note else {})})
         return len(self.citations) - 1
 
-    def render(self, uncited: Sequence[str] = ()) -> RenderedDocument:
+    def cite_all(self, citations: Iterable[Citation]) -> None:
+        """Adds citations, as `citations_of` reads them. In a note style one without the number of a
+        note has that of its place among all citations, from 1 on."""
+        is_note = self.works.style.source.tree.get("class") == "note"
+        for it in citations:
+            self.citation(it.cites, it.note or (len(self.citations) + 1 if is_note else None))
+
+    def render(self, uncited: Iterable[str] = ()) -> RenderedDocument:
         """The citations, and the bibliography, which has the works that are cited, and these."""
         style, prefix = self.works.style, self.works.prefix
         found = style.processor.ask("document", style=style.name, citations=self.citations,

@@ -17,6 +17,15 @@ HERE = os.path.dirname(os.path.abspath(__file__))
 STYLE, ITEMS = f"{HERE}/moss.csl", f"{HERE}/items.json"
 WORKS = [("moss", "Moss", "Kwan", 2014), ("roe", "Hills", "Roe", 2010),
          ("fern", "Ferns", "Kwan", 2016), ("doe", "Lakes", "Doe", 1999)]
+# A program that has items, to the letter.
+PROGRAM = """
+with sulleqti.Processor() as processor:                      # csl_serve: a path, SULLEQTI_SERVE, or on PATH
+    style = processor.style("apa.csl", locale="en-GB")
+    document = style.document(items)                         # CSL-JSON, as Zotero has it
+    cite = document.cite("kwan", locator=("page", "7"))
+    done = document.render()
+print(done[cite].html, done.bibliography[0].html)            # also .text, .tree
+"""
 IS_HERE = bool(os.environ.get("SULLEQTI_SERVE") or shutil.which("csl_serve"))
 
 
@@ -138,19 +147,21 @@ class Served(unittest.TestCase):
         self.assertEqual(done.looks, {"hanging-indent": True, "line-spacing": 1,
                                       "entry-spacing": 1})
 
-    def test_readme(self):
-        """The last block of README.md, to the letter, over this style and these works."""
+    def test_programs(self):
+        """The last block of README.md, and the program, over this style and these works."""
         with open(f"{HERE}/../README.md", encoding="utf-8") as file:
             block = re.findall("(?s)```python\n(.*?)```", file.read())[-1]
+        begin = "import json, sulleqti\nitems = json.load(open('items.json'))"
+        path = {**os.environ, "PYTHONPATH": os.path.dirname(HERE)}
         with tempfile.TemporaryDirectory() as room:
             shutil.copy(f"{HERE}/year.csl", f"{room}/apa.csl")
             shutil.copy(ITEMS, f"{room}/items.json")
-            path = {**os.environ, "PYTHONPATH": os.path.dirname(HERE)}
-            ran = subprocess.run([sys.executable, "-c", block], cwd=room, env=path,
-                                 stdout=subprocess.PIPE, check=True)
-        self.assertEqual(ran.stdout.decode(),
-                         "(van der Kwan, Okafor, ACME 2014: 7) van der Kwan, Okafor, ACME. 2014. "
-                         "Crazy rich moss: a survey.\n")
+            for it in (block, begin + PROGRAM):
+                ran = subprocess.run([sys.executable, "-c", it], cwd=room, env=path,
+                                     stdout=subprocess.PIPE, check=True)
+                self.assertEqual(ran.stdout.decode(),
+                                 "(van der Kwan, Okafor, ACME 2014: 7) van der Kwan, Okafor, ACME. "
+                                 "2014. Crazy rich moss: a survey.\n")
 
 
 if __name__ == "__main__":

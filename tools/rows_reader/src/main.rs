@@ -1,8 +1,7 @@
 //! The program of `tools/rows`: it reads rows from standard input, each of which has nodes, an entry,
 //! a cite and what is wanted of them, or a style, a work or a tree and what is wanted of it. It prints
 //! each row that is not as wanted, and how many are. With the argument `try`, a row that wants nothing
-//! prints what came. With the argument `items` it is the program of `tools/try`, and reads requests.
-//! Nothing proves this program.
+//! prints what came. Nothing proves this program.
 #![tactic(auto)]
 
 mod answers;
@@ -13,7 +12,6 @@ mod entry;
 mod entry_answers;
 mod fault;
 mod form;
-mod items;
 mod layouts;
 mod list_answers;
 mod list_lines;
@@ -24,7 +22,6 @@ mod name_nodes;
 mod names;
 mod nodes;
 mod question;
-mod replies;
 mod rows;
 mod scene;
 mod style;
@@ -35,35 +32,23 @@ mod trees;
 mod work;
 
 use fault::Fault;
-use items::Items;
 use rows::{Rows, printed};
 use std::alloc::Global;
 use std::env;
 use std::process::ExitCode;
 use std::rt::Env;
 
-/// What the program is to do.
-enum Task {
-    /// Rows, printed if they are not as wanted.
-    Compare,
-    /// Rows, printed too if they want nothing.
-    Try,
-    /// The requests of `tools/try`.
-    Items,
-}
-
-/// The task that the argument names.
-fn task(rt: &(impl Env + AllocGlobal)) -> Result<Task, Fault> {
+/// Whether the argument asks that rows are printed too if they want nothing.
+fn is_trial(rt: &(impl Env + AllocGlobal)) -> Result<bool, Fault> {
     let Ok(mut words) = env::args(rt) else {
         return Err(Fault::Memory);
     };
     let _program = words.next();
     let words: Vec<String> = words.collect(rt.alloc())?;
     match words.as_slice() {
-        [] => Ok(Task::Compare),
-        [word] if word.as_str() == "try" => Ok(Task::Try),
-        [word] if word.as_str() == "items" => Ok(Task::Items),
-        _ => Err(Fault::Wrong("the argument is try or items, or there is none")),
+        [] => Ok(false),
+        [word] if word.as_str() == "try" => Ok(true),
+        _ => Err(Fault::Wrong("the argument is try, or there is none")),
     }
 }
 
@@ -83,25 +68,9 @@ fn compare(rt: &(impl Input + Print + AllocGlobal), is_trial: bool) -> Result<bo
     Ok(count == as_wanted)
 }
 
-/// Answers all requests.
-fn answer(rt: &(impl Input + Print + AllocGlobal)) -> Result<bool, Fault> {
-    let alloc: Global = rt.alloc();
-    let mut items = Items::new(alloc);
-    for line in rt.lines(alloc) {
-        match line {
-            Ok(line) => items.answer(rt, line.as_str())?,
-            Err(_) => return Err(Fault::Wrong("a line is no text")),
-        }
-    }
-    Ok(true)
-}
-
 fn run(rt: &(impl Env + Input + Print + AllocGlobal)) -> Result<bool, Fault> {
-    match task(rt)? {
-        Task::Compare => compare(rt, false),
-        Task::Try => compare(rt, true),
-        Task::Items => answer(rt),
-    }
+    let is_trial = is_trial(rt)?;
+    compare(rt, is_trial)
 }
 
 fn main(rt: HostRuntime) -> ExitCode {
