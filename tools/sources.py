@@ -21,7 +21,7 @@ ENDS_OF_HEAD = re.compile(r"\n\s*(?:requires|ensures|ghost|where)\b|\{|;")
 
 def blank(text: str) -> str:
     """The source with blanks in place of comments and quoted text, so that places stay the same."""
-    comments, raw, quoted = r"//[^\n]*|/\*.*?\*/", r'r#*".*?"#*', r'b?"(?:\\.|[^"\\])*"'
+    comments, raw, quoted = r"//[^\n]*|/\*.*?\*/", r'r(#*)".*?"\1', r'b?"(?:\\.|[^"\\])*"'
     character = r"b?'(?:\\[^\n]|[^'\\\n])'"
     token = re.compile(f"{comments}|{raw}|{quoted}|{character}", re.S)
     return token.sub(lambda found: re.sub(r"[^\n]", " ", found[0]), text)

@@ -2,7 +2,6 @@
 //! texts. Also of its built-in entries and styles, and of calls of the crates below with these.
 
 mod cites;
-mod dry_runs;
 mod pairs;
 mod refusing_entries;
 mod refusing_writers;

@@ -3,6 +3,5 @@
 mod errors;
 mod every_type;
 mod limits;
-mod lists;
 mod renderers;
 mod whole_locales;

@@ -2,10 +2,8 @@
 //! hand.
 
 mod cites;
-mod dates;
 mod entries;
 mod limits;
 mod reading;
-mod refusals;
 mod rendered;
 mod variables;

@@ -5,5 +5,4 @@ mod documents;
 mod limits;
 mod options;
 mod reading;
-mod refusals;
 mod rendered;

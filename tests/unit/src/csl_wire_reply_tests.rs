@@ -1,5 +1,4 @@
 //! Tests of contents as JSON. Expected values are those of docs/WIRE.md, Replies.
 
 mod contents;
-mod random;
 mod reading;

@@ -32,6 +32,10 @@ mod csl_wire_reply_tests;
 #[cfg(test)]
 mod csl_wire_tests;
 #[cfg(test)]
+mod described;
+#[cfg(test)]
 mod lit_model_tests;
 #[cfg(test)]
 mod shared;
+#[cfg(test)]
+mod wire;

@@ -1,10 +1,56 @@
-//! What the tests of several libraries need: lists of few items, texts by their chunks, random
-//! numbers, and writers that refuse texts.
+//! What the tests of several libraries need: tables of cases, lists of few items, long texts, texts by
+//! their chunks, random numbers, and writers that refuse texts.
 
 use lit_model::{ChunkKind, ChunkedString, StringChunk};
 use std::alloc::Global;
 use std::fmt;
 use std::process::Abort;
+
+/// Asserts the answers to the cases of a table: ` =>` is between what is asked and what is wanted, and
+/// spaces around these do not count. A line that begins with a space goes on with the case before it,
+/// and one that begins with `#` is a comment.
+pub(crate) fn assert_cases<F: Fn(&str) -> String>(
+    rt: &impl Abort,
+    alloc: Global,
+    table: &str,
+    answer: &F,
+) {
+    let mut case = String::new(alloc);
+    for line in table.lines() {
+        if !line.starts_with(' ') && !line.starts_with('#') {
+            assert_case(rt, case.as_str(), answer);
+            case.clear();
+        }
+        if !line.starts_with('#') {
+            case.push(' ').expect(rt, "memory");
+            case.push_str(line.trim_start()).expect(rt, "memory");
+        }
+    }
+    assert_case(rt, case.as_str(), answer);
+}
+
+/// Asserts the answer to a case, if it is not empty.
+fn assert_case<F: Fn(&str) -> String>(rt: &impl Abort, case: &str, answer: &F) {
+    if !case.trim().is_empty() {
+        let (asked, wanted) = case.split_once(" =>").expect(rt, "a case");
+        let came = answer(asked.trim());
+        assert_eq!(rt; came.as_str().trim(), wanted.trim(), "of {asked}");
+    }
+}
+
+/// A copy of a text.
+pub(crate) fn string(rt: &impl Abort, alloc: Global, text: &str) -> String {
+    String::from_str(alloc, text).expect(rt, "memory")
+}
+
+/// A text so many times.
+pub(crate) fn repeated(rt: &impl Abort, alloc: Global, text: &str, count: usize) -> String {
+    let mut all = String::new(alloc);
+    for _ in 0..count {
+        all.push_str(text).expect(rt, "memory");
+    }
+    all
+}
 
 /// A list of one item.
 pub(crate) fn alone<T: Drop>(rt: &impl Abort, alloc: Global, item: T) -> Vec<T> {

@@ -1,7 +1,7 @@
 //! Tests of the command `cite`, with the built-in entries and styles. `tools/test_script` reads the
 //! rows, too.
 
-use crate::csl_cli_tests::words::{Refusal, assert_refusals, assert_run};
+use crate::csl_cli_tests::words::assert_run;
 use std::alloc::Global;
 use std::process::Abort;
 
@@ -59,37 +59,6 @@ static CITES: [CiteRow; 8] = [
     ("feminism", "reference", ESSAY, ESSAY_HTML),
 ];
 
-static REFUSALS: [Refusal; 11] = [
-    // A word is missing.
-    (&["cite"], "missing word\n"),
-    (&["cite", "crazy-rich"], "missing word\n"),
-    (&["cite", "crazy-rich", "reference"], "missing word\n"),
-    // A word is unknown, or one too many. Words are parsed from the left.
-    (&["cite", "nobody"], "unknown: nobody\n"),
-    (
-        &["cite", "nobody", "author-date", "plain"],
-        "unknown: nobody\n",
-    ),
-    (&["cite", "nobody", "nostyle", "pdf"], "unknown: nobody\n"),
-    (&["cite", "crazy-rich", "nostyle"], "unknown: nostyle\n"),
-    (
-        &["cite", "crazy-rich", "nostyle", "plain"],
-        "unknown: nostyle\n",
-    ),
-    (
-        &["cite", "crazy-rich", "author-date", "pdf"],
-        "unknown: pdf\n",
-    ),
-    (
-        &["cite", "crazy-rich", "reference", "pdf", "now"],
-        "unknown: pdf\n",
-    ),
-    (
-        &["cite", "crazy-rich", "reference", "html", "now"],
-        "unknown: now\n",
-    ),
-];
-
 /// Asserts both texts of a cite, and that the leaf text of its HTML is its plain text.
 fn assert_cite(rt: &impl Abort, alloc: Global, &(key, style, plain, html): &CiteRow) {
     assert_run(rt, alloc, &["cite", key, style, "plain"], 0, plain, "");
@@ -104,9 +73,4 @@ fn cites_and_their_leaf_texts(rt: HostRuntime) {
     for row in cites {
         assert_cite(&rt, rt.alloc(), row);
     }
-}
-
-#[test]
-fn words_of_cite_that_are_refused(rt: HostRuntime) {
-    assert_refusals(&rt, rt.alloc(), &REFUSALS);
 }

@@ -2,7 +2,7 @@
 //! the rows, too.
 
 use crate::csl_cli_tests::shared::{assert_status, assert_text};
-use crate::shared::put;
+use crate::shared::{assert_cases, put, string};
 use csl_cli::run::{run, run_into};
 use csl_common::TrackingWriter;
 use std::alloc::Global;
@@ -56,30 +56,38 @@ static ROWS: [Row; 21] = [
     (&["kind", "feminism", "article"], 0, "false\n", ""),
 ];
 
-/// Refused words, and the fault.
-pub(crate) type Refusal = (&'static [&'static str], &'static str);
-
-static REFUSALS: [Refusal; 17] = [
-    // A word is missing.
-    (&["title"], "missing word\n"),
-    (&["title", "Nature"], "missing word\n"),
-    (&["label"], "missing word\n"),
-    (&["kind"], "missing word\n"),
-    (&["kind", "feminism"], "missing word\n"),
-    (&["leaf"], "missing word\n"),
-    // A word is unknown, or one too many.
-    (&["title", "Nature", "pdf"], "unknown: pdf\n"),
-    (&["title", "Nature", "html", "now"], "unknown: now\n"),
-    (&["title", "Nature", "pdf", "now"], "unknown: pdf\n"),
-    (&["labels", "x"], "unknown: labels\n"),
-    (&["label", "nobody"], "unknown: nobody\n"),
-    (&["label", "crazy-rich", "now"], "unknown: now\n"),
-    (&["kind", "nobody"], "unknown: nobody\n"),
-    (&["kind", "crazy-rich", "comic"], "unknown: comic\n"),
-    (&["kind", "crazy-rich", "book", "now"], "unknown: now\n"),
-    (&["leaf", "x", "now"], "unknown: now\n"),
-    (&["leaf", "a&b", "x"], "unknown: x\n"),
-];
+/// Words that are refused with status 2, and the fault. A word is missing, unknown, or one too many.
+/// Words are parsed from the left.
+const REFUSALS: &str = "
+title => missing word
+title Nature => missing word
+label => missing word
+kind => missing word
+kind feminism => missing word
+leaf => missing word
+title Nature pdf => unknown: pdf
+title Nature html now => unknown: now
+title Nature pdf now => unknown: pdf
+labels x => unknown: labels
+label nobody => unknown: nobody
+label crazy-rich now => unknown: now
+kind nobody => unknown: nobody
+kind crazy-rich comic => unknown: comic
+kind crazy-rich book now => unknown: now
+leaf x now => unknown: now
+leaf a&b x => unknown: x
+cite => missing word
+cite crazy-rich => missing word
+cite crazy-rich reference => missing word
+cite nobody => unknown: nobody
+cite nobody author-date plain => unknown: nobody
+cite nobody nostyle pdf => unknown: nobody
+cite crazy-rich nostyle => unknown: nostyle
+cite crazy-rich nostyle plain => unknown: nostyle
+cite crazy-rich author-date pdf => unknown: pdf
+cite crazy-rich reference pdf now => unknown: pdf
+cite crazy-rich reference html now => unknown: now
+";
 
 /// The words as the program takes them.
 pub(crate) fn strings(rt: &impl Abort, alloc: Global, words: &[&str]) -> Vec<String> {
@@ -109,20 +117,31 @@ pub(crate) fn assert_run(
     assert_text(rt, said.as_str(), fault, of);
 }
 
-/// Asserts that the program refuses the words of each row with its fault.
-pub(crate) fn assert_refusals(rt: &impl Abort, alloc: Global, rows: &[Refusal]) {
-    for (of, fault) in rows {
-        assert_run(rt, alloc, *of, 2, "", *fault);
-    }
-}
-
 #[test]
 fn words_and_what_they_give(rt: HostRuntime) {
     let rows: &[Row] = &ROWS;
     for (of, status, out, fault) in rows {
         assert_run(&rt, rt.alloc(), *of, *status, *out, *fault);
     }
-    assert_refusals(&rt, rt.alloc(), &REFUSALS);
+}
+
+#[test]
+fn words_that_are_refused(rt: HostRuntime) {
+    let alloc = rt.alloc();
+    assert_cases(
+        &rt,
+        alloc,
+        REFUSALS,
+        &|line| {
+            let words = line.split(' ').map(|word| string(&rt, alloc, word));
+            let words: Vec<String> = words.collect(alloc).ok().expect(&rt, "memory");
+            let (mut wrote, mut said) = (String::new(alloc), String::new(alloc));
+            let status = run(alloc, words.as_slice(), &mut wrote, &mut said);
+            assert_status(&rt, status, 2, &[line]);
+            assert_text(&rt, wrote.as_str(), "", &[line]);
+            said
+        },
+    );
 }
 
 #[test]

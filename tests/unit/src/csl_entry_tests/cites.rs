@@ -44,45 +44,21 @@ fn properties(
     }
 }
 
-/// The name of a state, and a number: how many variables it has, or its year suffix, else 0.
-fn state_words(state: &DisambiguateState) -> (&'static str, usize) {
-    match state {
+/// A cite in words: its properties, and its state with the number of its variables or its year
+/// suffix.
+fn words_of(alloc: Global, cite: &CiteProperties<'_>) -> Result<String, Fail> {
+    let (certain, locator) = (cite.certain, cite.speculative.locator);
+    let (number, ibid) = (
+        cite.speculative.citation_number.get(),
+        cite.speculative.ibid,
+    );
+    let (state, count) = match &cite.speculative.disambiguation {
         DisambiguateState::None => ("none", 0),
         DisambiguateState::NameDisambiguation(names) => ("names", names.variables().len()),
         DisambiguateState::Choose => ("choose", 0),
-        DisambiguateState::YearSuffix(number) => ("year suffix", *number as usize),
-    }
-}
-
-/// The certain properties of a cite: the first note of its entry, whether it is the entry's first
-/// cite, whether a near note before it cites the entry, and its index.
-fn certain_of(cite: &CiteProperties<'_>) -> (Option<NoteNumber>, bool, bool, usize) {
-    let CertainCiteProperties {
-        first_note_number,
-        is_first,
-        is_near_note,
-        initial_idx,
-    } = cite.certain;
-    (first_note_number, is_first, is_near_note, initial_idx)
-}
-
-/// The speculative properties of a cite: its disambiguation in words, its locator, its number, and
-/// its relation to the cite before it.
-type Speculative<'s> = (
-    (&'static str, usize),
-    Option<SpecificLocator<'s>>,
-    u32,
-    IbidState,
-);
-
-fn speculative_of<'s>(cite: &SpeculativeCiteProperties<'s>) -> Speculative<'s> {
-    let number = cite.citation_number.get();
-    (
-        state_words(&cite.disambiguation),
-        cite.locator,
-        number,
-        cite.ibid,
-    )
+        DisambiguateState::YearSuffix(number) => ("suffix", *number as usize),
+    };
+    Ok(format!(in alloc; "{certain:?} {locator:?} {number} {ibid:?} {state} {count}")?)
 }
 
 #[test]
@@ -92,32 +68,28 @@ fn copied_properties_of_a_cite_are_equal(rt: HostRuntime) -> Result<(), Fail> {
     let full = DisambiguatedNameForm::ShortFull;
     let names = NameDisambiguationProperties::new(full, author, Vec::new(alloc));
     for (state, words) in [
-        (DisambiguateState::None, ("none", 0)),
-        (DisambiguateState::Choose, ("choose", 0)),
-        (DisambiguateState::YearSuffix(256), ("year suffix", 256)),
-        (DisambiguateState::NameDisambiguation(names), ("names", 1)),
+        (DisambiguateState::None, "none 0"),
+        (DisambiguateState::Choose, "choose 0"),
+        (DisambiguateState::YearSuffix(256), "suffix 256"),
+        (DisambiguateState::NameDisambiguation(names), "names 1"),
     ] {
-        assert_same(&rt, &state_words(&state.clone(alloc)?), &words);
-        let cite = properties(&rt, state, LocatorPayload::Str("5"));
-        let copy = cite.clone(alloc)?;
-        assert_same(
-            &rt,
-            &certain_of(&copy),
-            &(NoteNumber::new(6), true, false, 2),
-        );
-        let page = Some(SpecificLocator(Locator::Page, LocatorPayload::Str("5")));
-        let wanted = (words, page, 4, IbidState::Ibid);
-        assert_same(&rt, &speculative_of(&copy.speculative), &wanted);
-        assert_same(
-            &rt,
-            &speculative_of(&SpeculativeCiteProperties::clone(&copy.speculative, alloc)?),
-            &wanted,
-        );
+        let cite = properties(&rt, state.clone(alloc)?, LocatorPayload::Str("5"));
+        let (text, copy) = (words_of(alloc, &cite)?, cite.clone(alloc)?);
+        assert!(rt; text.as_str().ends_with(words), "{text} of {words}");
+        assert_same(&rt, &words_of(alloc, &copy)?.as_str(), &text.as_str());
+        let again = CiteProperties {
+            certain: copy.certain,
+            speculative: SpeculativeCiteProperties::clone(&copy.speculative, alloc)?,
+        };
+        assert_same(&rt, &words_of(alloc, &again)?.as_str(), &text.as_str());
     }
     let first = CiteProperties::first(DisambiguateState::Choose);
-    assert_same(&rt, &certain_of(&first), &(None, true, false, 0));
-    let wanted = (("choose", 0), None, 0, IbidState::Different);
-    assert_same(&rt, &speculative_of(&first.speculative), &wanted);
+    let (certain, speculative) = (&first.certain, &first.speculative);
+    assert!(rt; certain.is_first && certain.initial_idx == 0 && !certain.is_near_note);
+    assert_same(&rt, &certain.first_note_number, &None);
+    let number = speculative.citation_number.get();
+    assert_same(&rt, &(number, speculative.ibid), &(0, IbidState::Different));
+    assert!(rt; speculative.locator.is_none());
     Ok(())
 }
 

@@ -1,7 +1,7 @@
 //! What an entry holds is lent, by works, snapshots and an entry type with the provided methods.
 
 use crate::assertions::{assert_of, assert_same};
-use crate::shared::{alone, put};
+use crate::shared::{alone, assert_cases, put};
 use csl_elements::{NameVariable, Named, PageVariable, StandardVariable};
 use csl_entry::{EntryLike, LentText, Snapshot};
 use csl_laws::table::Table;
@@ -89,66 +89,54 @@ fn table(rt: &impl Abort, alloc: Global) -> Result<Table, Fail> {
     Ok(table)
 }
 
-/// How a text is lent, whether it is empty, and whether it is white space.
-type Lent = Option<(&'static str, bool, bool)>;
-
+/// How a text is lent, and whether it is empty and white space.
 fn lent_text<T: EntryLike>(
+    rt: &impl Abort,
     alloc: Global,
     entry: &T,
     variable: StandardVariable,
-) -> Result<Lent, Fail> {
-    let found = entry.lend_text(alloc, LongShortForm::Long, variable)?;
-    Ok(found.map(|text| {
-        let how = match &text {
-            LentText::Verbatim(_) => "verbatim",
-            LentText::Chunks(Cow::Borrowed(_)) => "lent",
-            LentText::Chunks(Cow::Owned(_)) => "owned",
-        };
-        (how, text.is_empty(), text.is_white_space())
-    }))
+) -> &'static str {
+    let found = entry.lend_text(alloc, LongShortForm::Long, variable);
+    let Some(text) = found.expect(rt, "memory") else {
+        return "none";
+    };
+    match (&text, text.is_empty(), text.is_white_space()) {
+        (LentText::Verbatim(_), false, false) => "verbatim",
+        (LentText::Verbatim(_), true, true) => "verbatim empty",
+        (LentText::Chunks(Cow::Borrowed(_)), false, false) => "lent",
+        (LentText::Chunks(Cow::Borrowed(_)), false, true) => "lent blank",
+        (LentText::Chunks(Cow::Borrowed(_)), true, true) => "lent empty",
+        (LentText::Chunks(Cow::Owned(_)), false, false) => "owned",
+        _ => "otherwise",
+    }
 }
 
-const BLANK: Lent = Some(("lent", false, true));
-
 /// A variable, and how the article, its snapshot and the table lend it.
-static TEXTS: [(StandardVariable, [Lent; 3]); 5] = [
-    (
-        StandardVariable::DOI,
-        [
-            Some(("verbatim", false, false)),
-            Some(("lent", false, false)),
-            None,
-        ],
-    ),
-    (
-        StandardVariable::ISBN,
-        [
-            Some(("verbatim", true, true)),
-            Some(("lent", true, true)),
-            None,
-        ],
-    ),
-    (StandardVariable::Title, [BLANK, BLANK, BLANK]),
-    (
-        StandardVariable::CitationLabel,
-        [Some(("owned", false, false)), None, None],
-    ),
-    (StandardVariable::URL, [None, None, None]),
-];
+const TEXTS: &str = "
+DOI => verbatim, lent, none
+ISBN => verbatim empty, lent empty, none
+title => lent blank, lent blank, lent blank
+citation-label => owned, none, none
+URL => none, none, none
+";
 
 #[test]
 fn texts_are_lent_to_ask_about_them(rt: HostRuntime) -> Result<(), Fail> {
     let alloc = rt.alloc();
     let (article, table) = (article(&rt, alloc)?, table(&rt, alloc)?);
     let kept = Snapshot::new(alloc, &article, &named(alloc)?)?;
-    for (variable, wanted) in &TEXTS {
-        let found = [
-            lent_text(alloc, &article, *variable)?,
-            lent_text(alloc, &kept, *variable)?,
-            lent_text(alloc, &table, *variable)?,
-        ];
-        assert_of(&rt, &found, wanted, *variable);
-    }
+    assert_cases(
+        &rt,
+        alloc,
+        TEXTS,
+        &|name| {
+            let variable = StandardVariable::from_name(name).expect(&rt, "a variable");
+            let of_article = lent_text(&rt, alloc, &article, variable);
+            let of_snapshot = lent_text(&rt, alloc, &kept, variable);
+            let of_table = lent_text(&rt, alloc, &table, variable);
+            format!(in alloc; "{of_article}, {of_snapshot}, {of_table}").expect(&rt, "memory")
+        },
+    );
     Ok(())
 }
 
@@ -207,20 +195,21 @@ fn texts_and_pages_that_an_entry_holds_are_lent(rt: HostRuntime) -> Result<(), F
 }
 
 /// A variable, and whether the article, its snapshot and the table have persons.
-static PERSONS: [(NameVariable, [bool; 3]); 5] = [
-    (NameVariable::Author, [true, true, true]),
-    (NameVariable::Editor, [true, false, false]),
-    (NameVariable::ContainerAuthor, [false, false, false]),
-    (NameVariable::Translator, [true, true, false]),
-    (NameVariable::Composer, [false, false, false]),
-];
+const PERSONS: &str = "
+author => true true true
+editor => true false false
+container-author => false false false
+translator => true true false
+composer => false false false
+";
 
 fn has_persons<T: EntryLike>(
+    rt: &impl Abort,
     alloc: Global,
     entry: &T,
     variable: NameVariable,
-) -> Result<bool, Fail> {
-    Ok(entry.has_persons(alloc, variable)?)
+) -> bool {
+    entry.has_persons(alloc, variable).expect(rt, "memory")
 }
 
 #[test]
@@ -228,13 +217,17 @@ fn an_entry_has_persons_or_none(rt: HostRuntime) -> Result<(), Fail> {
     let alloc = rt.alloc();
     let (article, table) = (article(&rt, alloc)?, table(&rt, alloc)?);
     let kept = Snapshot::new(alloc, &article, &named(alloc)?)?;
-    for (variable, wanted) in &PERSONS {
-        let found = [
-            has_persons(alloc, &article, *variable)?,
-            has_persons(alloc, &kept, *variable)?,
-            has_persons(alloc, &table, *variable)?,
-        ];
-        assert_of(&rt, &found, wanted, *variable);
-    }
+    assert_cases(
+        &rt,
+        alloc,
+        PERSONS,
+        &|name| {
+            let variable = NameVariable::from_name(name).expect(&rt, "a variable");
+            let of_article = article.has_persons(alloc, variable).expect(&rt, "memory");
+            let of_snapshot = kept.has_persons(alloc, variable).expect(&rt, "memory");
+            let of_table = table.has_persons(alloc, variable).expect(&rt, "memory");
+            format!(in alloc; "{of_article} {of_snapshot} {of_table}").expect(&rt, "memory")
+        },
+    );
     Ok(())
 }

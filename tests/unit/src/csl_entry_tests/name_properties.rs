@@ -1,6 +1,7 @@
 //! The name forms of a citation: copies, more names, fuller forms, and the fuller of two.
 
-use crate::assertions::{assert_of, assert_same};
+use crate::assertions::assert_same;
+use crate::shared::{assert_cases, put, string};
 use csl_elements::NameVariable;
 use csl_entry::{DisambiguatedNameForm as Form, NameDisambiguationProperties};
 use csl_laws::calls::count_form;
@@ -54,141 +55,150 @@ fn properties(
     Ok(NameDisambiguationProperties::new(default, variables, name_forms))
 }
 
-/// Asserts the default form and each list, as letters.
-fn assert_forms(
-    rt: &impl Abort,
-    alloc: Global,
-    properties: &NameDisambiguationProperties,
-    wanted: &str,
-    of: &str,
-) -> Result<(), Fail> {
+/// The default form and each list, as letters.
+fn letters_of(rt: &impl Abort, alloc: Global, properties: &NameDisambiguationProperties) -> String {
     let mut letters = String::new(alloc);
-    letters.push(letter_of(Some(properties.default_name_form())))?;
+    let default = letter_of(Some(properties.default_name_form()));
+    letters.push(default).expect(rt, "memory");
     for forms in properties.name_forms() {
-        letters.push_str(if forms.is_empty() { " ." } else { " " })?;
+        let begin = if forms.is_empty() { " ." } else { " " };
+        letters.push_str(begin).expect(rt, "memory");
         for form in forms {
-            letters.push(letter_of(*form))?;
+            letters.push(letter_of(*form)).expect(rt, "memory");
         }
     }
-    assert_eq!(rt; letters.as_str(), wanted, "of {of}");
-    Ok(())
+    letters
 }
 
 #[test]
 fn copies_are_equal(rt: HostRuntime) -> Result<(), Fail> {
-    let author = properties(rt.alloc(), Form::ShortFull, "S- L . c")?;
+    let author = properties(rt.alloc(), Form::ShortFull, "S- L . c").expect(&rt, "memory");
     assert!(rt; author.clone(rt.alloc())? == author, "of the author");
     Ok(())
 }
 
-/// Lists, how many names a call shows, the default form with the lists after it, and its answer.
-static ADDITIONS: [(&str, usize, &str, bool); 6] = [
-    ("-- ---", 3, "L -- LLL", true),
-    ("-- ---", 4, "L -- ---", false),
-    ("s-- L", 2, "L sL- L", true),
-    ("S-", 1, "L S-", true),
-    (". -", 1, "L . L", true),
-    ("", 0, "L", false),
-];
+/// How many names a call shows, lists, the default form with the lists after the call, and its answer.
+const ADDITIONS: &str = "
+3: -- --- => L -- LLL true
+4: -- --- => L -- --- false
+2: s-- L => L sL- L true
+1: S- => L S- true
+1: . - => L . L true
+0: => L false
+";
 
 #[test]
-fn names_are_added_in_the_first_list_of_so_many(rt: HostRuntime) -> Result<(), Fail> {
+fn names_are_added_in_the_first_list_of_so_many(rt: HostRuntime) {
     let alloc = rt.alloc();
-    for (lists, num, wanted, is_there) in &ADDITIONS {
-        let mut properties = properties(alloc, Form::LongFull, *lists)?;
-        assert_of(&rt, &properties.add_name(*num), is_there, *lists);
-        assert_forms(&rt, alloc, &properties, *wanted, *lists)?;
-    }
-    Ok(())
+    assert_cases(
+        &rt,
+        alloc,
+        ADDITIONS,
+        &|case| {
+            let (count, lists) = case.split_once(':').expect(&rt, "a number");
+            let count = count.parse::<usize>().ok().expect(&rt, "a number");
+            let properties = properties(alloc, Form::LongFull, lists);
+            let mut properties = properties.expect(&rt, "memory");
+            let is_there = properties.add_name(count);
+            let letters = letters_of(&rt, alloc, &properties);
+            format!(in alloc; "{letters} {is_there}").expect(&rt, "memory")
+        },
+    );
 }
 
-/// Lists, a variable, places, and the default form with the lists after the call and its answer, or
-/// `None` if the call is not allowed.
-type ListRow = (
-    &'static str,
-    NameVariable,
-    &'static [usize],
-    Option<(&'static str, bool)>,
-);
-
-static LISTS: [ListRow; 8] = [
-    (
-        "-s S",
-        NameVariable::Author,
-        &[0, 1, 0],
-        Some(("S Ll S", true)),
-    ),
-    ("-s S", NameVariable::Author, &[], Some(("S -s S", false))),
-    ("-s S", NameVariable::Editor, &[0], Some(("S -s L", true))),
-    ("-s S", NameVariable::Editor, &[1], None),
-    ("-s S", NameVariable::Chair, &[0], Some(("S -s S", false))),
-    (
-        "cL S",
-        NameVariable::Author,
-        &[0, 1],
-        Some(("S cL S", false)),
-    ),
-    ("S", NameVariable::Editor, &[], None),
-    (". S -", NameVariable::Author, &[0], None),
-];
+/// A variable, places, lists, and the default form with the lists after the call and its answer, or
+/// that the call is not allowed.
+const LISTS: &str = "
+author 010: -s S => S Ll S true
+author : -s S => S -s S false
+editor 0: -s S => S -s L true
+editor 1: -s S => not allowed
+chair 0: -s S => S -s S false
+author 01: cL S => S cL S false
+editor : S => not allowed
+author 0: . S - => not allowed
+";
 
 #[test]
-fn names_of_the_variable_are_disambiguated(rt: HostRuntime) -> Result<(), Fail> {
+fn names_of_the_variable_are_disambiguated(rt: HostRuntime) {
     let alloc = rt.alloc();
-    for (lists, variable, places, wanted) in &LISTS {
-        let mut properties = properties(alloc, Form::ShortFull, *lists)?;
-        let is_allowed = properties.can_disambiguate(*variable, *places);
-        assert_of(&rt, &is_allowed, &wanted.is_some(), *lists);
-        if let Some((wanted, is_changed)) = *wanted {
-            let answer = properties.disambiguate_list(*variable, *places);
-            assert_of(&rt, &answer, &is_changed, *lists);
-            assert_forms(&rt, alloc, &properties, wanted, *lists)?;
-        }
-    }
+    assert_cases(
+        &rt,
+        alloc,
+        LISTS,
+        &|case| {
+            let (head, lists) = case.split_once(':').expect(&rt, "lists");
+            let (name, digits) = head.split_once(' ').expect(&rt, "places");
+            let variable = NameVariable::from_name(name).expect(&rt, "a variable");
+            let mut places: Vec<usize> = Vec::new(alloc);
+            for digit in digits.chars() {
+                put(&rt, &mut places, if digit == '0' { 0 } else { 1 });
+            }
+            let properties = properties(alloc, Form::ShortFull, lists);
+            let mut properties = properties.expect(&rt, "memory");
+            if !properties.can_disambiguate(variable, &places) {
+                return string(&rt, alloc, "not allowed");
+            }
+            let is_changed = properties.disambiguate_list(variable, &places);
+            let letters = letters_of(&rt, alloc, &properties);
+            format!(in alloc; "{letters} {is_changed}").expect(&rt, "memory")
+        },
+    );
     // Initials stay so, unless given names may be written out.
     let fuller = [false, true].map(|full| Form::LongInitialized.disambiguate(full));
     assert_same(&rt, &fuller, &[None, Some(Form::LongFull)]);
-    Ok(())
 }
 
 /// The lists of two properties, and the properties that show more. The default form of the first is a
 /// count, and that of the second the fullest form.
-static MAX: [(&str, &str, &str); 5] = [
-    ("S- l", "S- l", "L S- l"),
-    ("SS", "L-", "c SS"),
-    ("L-", "SS", "L SS"),
-    ("L-", "S-", "c L-"),
-    ("S", "S -", "L S -"),
-];
+const MAX: &str = "
+S- l / S- l => L S- l
+SS / L- => c SS
+L- / SS => L SS
+L- / S- => c L-
+S / S - => L S -
+";
 
 #[test]
-fn the_greater_shows_more_names_or_later_forms(rt: HostRuntime) -> Result<(), Fail> {
+fn the_greater_shows_more_names_or_later_forms(rt: HostRuntime) {
     let alloc = rt.alloc();
-    for (first, second, wanted) in &MAX {
-        let one = properties(alloc, Form::Count, *first)?;
-        let other = properties(alloc, Form::LongFull, *second)?;
-        assert_forms(&rt, alloc, &one.max(other), *wanted, *first)?;
-    }
-    Ok(())
+    assert_cases(
+        &rt,
+        alloc,
+        MAX,
+        &|case| {
+            let (first, second) = case.split_once(" / ").expect(&rt, "two");
+            let one = properties(alloc, Form::Count, first).expect(&rt, "memory");
+            let other = properties(alloc, Form::LongFull, second).expect(&rt, "memory");
+            letters_of(&rt, alloc, &one.max(other))
+        },
+    );
 }
 
-/// Lists, an index among all forms, the form there, and the lists after a count replaced it. Where no
+/// An index among all forms, lists, the form there, and the lists after a count replaced it. Where no
 /// name is shown it is the default form.
-static FORMS: [(&str, usize, char, &str); 4] = [
-    ("S- l", 0, 'S', "L c- l"),
-    ("S- l", 1, 'L', "c S- l"),
-    ("S . s l", 1, 's', "L S . c l"),
-    ("", 0, 'L', "c"),
-];
+const FORMS: &str = "
+0: S- l => S, L c- l
+1: S- l => L, c S- l
+1: S . s l => s, L S . c l
+0: => L, c
+";
 
 #[test]
-fn a_form_is_lent_at_its_place_or_the_default_one(rt: HostRuntime) -> Result<(), Fail> {
+fn a_form_is_lent_at_its_place_or_the_default_one(rt: HostRuntime) {
     let alloc = rt.alloc();
-    for (lists, idx, form, wanted) in &FORMS {
-        let mut properties = properties(alloc, Form::LongFull, *lists)?;
-        let was = count_form(&mut properties, *idx);
-        assert_of(&rt, &letter_of(was), form, *lists);
-        assert_forms(&rt, alloc, &properties, *wanted, *lists)?;
-    }
-    Ok(())
+    assert_cases(
+        &rt,
+        alloc,
+        FORMS,
+        &|case| {
+            let (index, lists) = case.split_once(':').expect(&rt, "an index");
+            let index = index.parse::<usize>().ok().expect(&rt, "an index");
+            let properties = properties(alloc, Form::LongFull, lists);
+            let mut properties = properties.expect(&rt, "memory");
+            let form = letter_of(count_form(&mut properties, index));
+            let letters = letters_of(&rt, alloc, &properties);
+            format!(in alloc; "{form}, {letters}").expect(&rt, "memory")
+        },
+    );
 }

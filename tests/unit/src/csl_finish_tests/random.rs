@@ -1,5 +1,5 @@
-//! Random trees. Finishing leaves letters and digits in their texts, and all else as it was. Text case
-//! changes nothing but case.
+//! Random trees. Finishing leaves letters and digits in their texts, and all else as it was. Text
+//! case changes nothing but case.
 
 use crate::csl_finish_tests::case::marked;
 use crate::csl_finish_tests::finish::style_of;
@@ -11,75 +11,16 @@ use std::alloc::Global;
 use std::process::Abort;
 
 /// Pieces of trees (`trees.rs`).
-static PIECES: [&str; 32] = [
-    "a",
-    "Moss.",
-    ".",
-    "..",
-    " . ",
-    "“",
-    "”",
-    "‘a",
-    "b’ ",
-    "’",
-    ", ",
-    ";",
-    ": ",
-    "?",
-    "!",
-    " ",
-    "...",
-    "«",
-    "» ",
-    "@x..",
-    "$y,,",
-    "#",
-    "/b.",
-    "1",
-    "“Why?”",
-    "((",
-    ". . .",
-    "É e\u{301}",
-    "/ ,",
-    "@” .",
-    "„",
-    "‚‘",
-];
+const PIECES: &str = "a|Moss.|.|..| . |“|”|‘a|b’ |’|, |;|: |?|!| |...|«|» |@x..|$y,,|#|/b.|1|\
+    “Why?”|((|. . .|É e\u{301}|/ ,|@” .|„|‚‘";
 
 /// Pieces of trees with marks of cases (`case.rs`).
-static CASED: [&str; 28] = [
-    "{t",
-    "t}",
-    "{s",
-    "s}",
-    "{f",
-    "f}",
-    "{a",
-    "a}",
-    "{u",
-    "u}",
-    "{l",
-    "l}",
-    "{n",
-    "n}",
-    "moss of",
-    " the Old",
-    ": a",
-    "ΟΔΟ",
-    "Σ",
-    "straße ",
-    "/É",
-    "@X",
-    "$Y",
-    "#",
-    "ǆ ﬁ",
-    "İ'i",
-    "/{tnode.js",
-    "\u{fddf}-",
-];
+const CASED: &str = "{t|t}|{s|s}|{f|f}|{a|a}|{u|u}|{l|l}|{n|n}|moss of| the Old|: a|ΟΔΟ|Σ|\
+    straße |/É|@X|$Y|#|ǆ ﬁ|İ'i|/{tnode.js|\u{fddf}-";
 
 /// A description of sixteen pieces, with elements around some of them.
-fn description(rt: &impl Abort, alloc: Global, numbers: &mut Numbers, pieces: &[&str]) -> String {
+fn description(rt: &impl Abort, alloc: Global, numbers: &mut Numbers, pieces: &str) -> String {
+    let count = pieces.split('|').count() as u64;
     let mut text = String::from_str(alloc, "a").expect(rt, "memory");
     let mut depth = 0;
     for _ in 0..16 {
@@ -92,7 +33,10 @@ fn description(rt: &impl Abort, alloc: Global, numbers: &mut Numbers, pieces: &[
                 depth -= 1;
                 "]"
             }
-            _ => pieces[numbers.below(pieces.len() as u64) as usize],
+            _ => {
+                let index = numbers.below(count) as usize;
+                pieces.split('|').nth(index).expect(rt, "a piece")
+            }
         };
         text.push('|').expect(rt, "memory");
         text.push_str(piece).expect(rt, "memory");
@@ -142,7 +86,7 @@ fn letters_and_links_stay(rt: HostRuntime) {
         Language::German,
     ] {
         for _ in 0..50 {
-            let source = description(&rt, rt.alloc(), &mut numbers, &PIECES);
+            let source = description(&rt, rt.alloc(), &mut numbers, PIECES);
             assert_kept(&rt, rt.alloc(), language, source.as_str());
         }
     }
@@ -166,7 +110,7 @@ fn case_alone_changes(rt: HostRuntime) {
     let alloc = rt.alloc();
     let mut numbers = Numbers::from(96);
     for index in 0..400 {
-        let source = description(&rt, alloc, &mut numbers, &CASED);
+        let source = description(&rt, alloc, &mut numbers, CASED);
         let source = marked(&rt, alloc, source.as_str());
         assert_cased(&rt, alloc, source.as_str(), index % 4 != 0);
     }

@@ -12,16 +12,12 @@
 //! | `#` | a place for a text of a cite |
 //! | `[`, `]` | the begin and the end of an element, the third entry |
 
-use crate::shared::put;
+use crate::shared::{put, string};
 use csl_elements::FontStyle;
 use csl_tree::{Elem, ElemChild, ElemChildren, ElemMeta, Formatting};
 use std::alloc::Global;
 use std::mem;
 use std::process::Abort;
-
-fn string(rt: &impl Abort, alloc: Global, text: &str) -> String {
-    String::from_str(alloc, text).expect(rt, "memory")
-}
 
 /// The child of a piece that is no element.
 fn leaf(rt: &impl Abort, alloc: Global, piece: &str) -> ElemChild {
@@ -53,7 +49,7 @@ fn leaf(rt: &impl Abort, alloc: Global, piece: &str) -> ElemChild {
 }
 
 /// The tree of a description.
-pub fn read(rt: &impl Abort, alloc: Global, description: &str) -> ElemChildren {
+pub(crate) fn read(rt: &impl Abort, alloc: Global, description: &str) -> ElemChildren {
     let mut around = Vec::new(alloc);
     let mut children = Vec::new(alloc);
     for piece in description.split('|') {
@@ -109,7 +105,7 @@ fn push_pieces(rt: &impl Abort, description: &mut String, content: &ElemChildren
 }
 
 /// The description of a tree.
-pub fn describe(rt: &impl Abort, alloc: Global, content: &ElemChildren) -> String {
+pub(crate) fn describe(rt: &impl Abort, alloc: Global, content: &ElemChildren) -> String {
     let mut pieces = String::new(alloc);
     push_pieces(rt, &mut pieces, content);
     string(rt, alloc, pieces.as_str().strip_prefix('|').unwrap_or(""))

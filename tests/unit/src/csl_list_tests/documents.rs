@@ -2,8 +2,8 @@
 //!
 //! A work is its authors, its year and its title between bars, as `Doe, Jane & Roe, Max|2014|Seas`.
 //! A cite is the index of its work and words between bars: `page=33`, `caller` (a locator that the
-//! caller writes), `before=see `, `after=, too`, `author`, `year`, `full`, `prose`, `suppress` and
-//! `hidden`. Semicolons separate the cites of a citation. It may begin with its note, as `3: 0;1`.
+//! caller writes), `before=see `, `author` and `hidden`. Semicolons separate the cites of a citation.
+//! It may begin with its note, as `3: 0;1`.
 
 use crate::shared::put;
 use csl::literature::{Date, Entry, EntryType, Person};
@@ -54,22 +54,6 @@ pub(crate) fn works(rt: &impl Abort, alloc: Global, descriptions: &[&str]) -> Ve
     works
 }
 
-/// The purpose of a word, if it names one.
-fn purpose(word: &str) -> Option<CitePurpose> {
-    match word {
-        "author" => Some(CitePurpose::Author),
-        "year" => Some(CitePurpose::Year),
-        "full" => Some(CitePurpose::Full),
-        "prose" => Some(CitePurpose::Prose),
-        "suppress" => Some(CitePurpose::SuppressAuthor),
-        _ => None,
-    }
-}
-
-fn affix(rt: &impl Abort, alloc: Global, text: &str) -> Option<ElemChildren> {
-    Some(plain_affix(alloc, text).expect(rt, "memory"))
-}
-
 /// The cite of a description.
 fn item<'d>(rt: &impl Abort, alloc: Global, description: &'d str) -> CitationItem<'d> {
     let mut words = description.split('|');
@@ -82,13 +66,12 @@ fn item<'d>(rt: &impl Abort, alloc: Global, description: &'d str) -> CitationIte
             let payload = LocatorPayload::Transparent;
             item.locator = Some(SpecificLocator(Locator::Page, payload));
         } else if let Some(text) = word.strip_prefix("before=") {
-            item.prefix = affix(rt, alloc, text);
-        } else if let Some(text) = word.strip_prefix("after=") {
-            item.suffix = affix(rt, alloc, text);
+            item.prefix = Some(plain_affix(alloc, text).expect(rt, "memory"));
         } else if word == "hidden" {
             item.hidden = true;
         } else {
-            item.purpose = Some(purpose(word).expect(rt, "a word of cites"));
+            assert!(rt; word == "author", "{word} is a word of cites");
+            item.purpose = Some(CitePurpose::Author);
         }
     }
     item
@@ -139,18 +122,6 @@ fn push(rt: &impl Abort, alloc: Global, text: &mut String, content: &ElemChildre
     let html = content.to_text(alloc, BufWriteFormat::Html);
     let html = html.expect(rt, "memory");
     text.push_str(html.as_str()).expect(rt, "memory");
-}
-
-/// A citation of a list as HTML.
-pub(crate) fn citation_text(
-    rt: &impl Abort,
-    alloc: Global,
-    list: &RenderedList,
-    index: usize,
-) -> String {
-    let mut text = String::new(alloc);
-    push(rt, alloc, &mut text, &list.citations[index].content);
-    text
 }
 
 /// The citations of a list as HTML, a line each, and then its works.

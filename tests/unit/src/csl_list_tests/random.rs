@@ -3,8 +3,8 @@
 
 use crate::assertions::assert_of;
 use crate::csl_list_tests::documents::{text_of, works};
-use crate::csl_list_tests::styles::{author_list, of_notes, text};
-use crate::shared::{Numbers, put};
+use crate::csl_list_tests::styles::{author_list, of_notes};
+use crate::shared::{Numbers, put, string};
 use csl::{BufWriteFormat, NoteNumber};
 use csl_elements::Locator;
 use csl_entry::{LocatorPayload, SpecificLocator};
@@ -182,7 +182,7 @@ fn wanted_of(rt: &impl Abort, alloc: Global, citations: &[Vec<Cite>]) -> String 
 fn positions_are_those_of_the_definition(rt: HostRuntime) {
     let alloc = rt.alloc();
     let options = CitationOptions {
-        delimiter: text(&rt, alloc, "; "),
+        delimiter: string(&rt, alloc, "; "),
         ..CitationOptions::new(alloc)
     };
     let style = ListStyle::new(alloc, of_notes(&rt, alloc), options, None);
@@ -198,15 +198,8 @@ fn positions_are_those_of_the_definition(rt: HostRuntime) {
             let list = list.expect(&rt, "a list");
             let found = text_of(&rt, alloc, &list);
             assert_of(&rt, &found.as_str(), &wanted.as_str(), round);
-            drop(found);
-            drop(list);
         }
-        drop(driver);
-        drop(wanted);
-        drop(citations);
     }
-    drop(works);
-    drop(style);
 }
 
 /// The texts of the citations that cite a work each.
@@ -249,8 +242,5 @@ fn no_two_works_have_one_cite(rt: HostRuntime) {
         for pair in texts.windows(2) {
             assert!(&rt; pair[0] != pair[1], "{} of {round}", pair[0]);
         }
-        drop(texts);
-        drop(descriptions);
     }
-    drop(style);
 }

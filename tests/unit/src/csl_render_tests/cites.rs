@@ -1,14 +1,14 @@
 //! Cites in special forms, and sort keys, of a book by one author.
 
+use crate::wire::json;
 use csl_entry::{CiteProperties, DisambiguateState, Sorting, SpecialForm};
 use csl_render::{cite_in, sort_key};
-use csl_style::{
-    Affixes, Date, DatePart, DatePartName, DateVariable, Group, InheritableNameOptions, Layout,
-    NameForm, NameVariable, Names, Scope, Style, StyleSettings, Variable,
-};
+use csl_style::{DateVariable, NameVariable, Scope, Style, Variable};
 use csl_tree::BufWriteFormat;
+use csl_wire::{Limits, style_of};
 use lit_model::{Entry, EntryType, Memory, Person};
 use std::alloc::Global;
+use std::process::Abort;
 use std::test::Fail;
 
 /// A special form, and the plain text of the cite `(Kwan, 2014)` in it.
@@ -50,44 +50,23 @@ fn crazy_rich(alloc: Global) -> Result<Entry, Memory> {
     Ok(book)
 }
 
-/// The authors and the year of issue, with a delimiter between them.
-fn names_and_year(alloc: Global, delimiter: &str) -> Result<Group, Memory> {
-    let names = Names::new(alloc, vec![in alloc; NameVariable::Author]?);
-    let year = vec![in alloc; DatePart::new(DatePartName::Year)]?;
-    let year = Date::new(DateVariable::Issued, year);
-    let parts = vec![in alloc; names.into(), year.into()]?;
-    Group::delimited(alloc, delimiter, parts)
+/// A style whose cites are as `(Kwan, 2014)`, with the family names alone. Its bibliography has the
+/// layout of a sort key.
+const STYLE: &str = r#"
+{
+  "citation": {"name-form": "short", "children": [
+    {"group": {"delimiter": ", ", "prefix": "(", "suffix": ")", "children": [
+      {"names": {"variable": ["author"]}},
+      {"date": {"variable": "issued", "date-part": [{"name": "year"}]}}]}}]},
+  "bibliography": {"children": [
+    {"group": {"delimiter": " ", "children": [
+      {"names": {"variable": ["author"]}},
+      {"date": {"variable": "issued", "date-part": [{"name": "year"}]}}]}}]}
 }
+"#;
 
-/// The layout of the cite `(Kwan, 2014)`.
-fn citation(alloc: Global) -> Result<Layout, Memory> {
-    let affixes = Affixes::around(alloc, "(", ")")?;
-    let cite = Group {
-        affixes,
-        ..names_and_year(alloc, ", ")?
-    };
-    Ok(Layout::new(vec![in alloc; cite.into()]?))
-}
-
-/// The layout of a sort key.
-fn key(alloc: Global) -> Result<Layout, Memory> {
-    let names_and_year = names_and_year(alloc, " ")?;
-    Ok(Layout::new(vec![in alloc; names_and_year.into()]?))
-}
-
-/// A style whose cites have the family names alone.
-fn style(alloc: Global) -> Result<Style, Fail> {
-    let citation_names = InheritableNameOptions {
-        form: Some(NameForm::Short),
-        ..InheritableNameOptions::default()
-    };
-    let settings = StyleSettings {
-        citation_names,
-        ..StyleSettings::default()
-    };
-    let citation = citation(alloc)?;
-    let (macros, locales) = (Vec::new(alloc), Vec::new(alloc));
-    Ok(Style::new(alloc, settings, macros, citation, None, locales)?)
+fn style(rt: &impl Abort, alloc: Global) -> Style {
+    style_of(alloc, &json(rt, alloc, STYLE), Limits::none()).expect(rt, "a style")
 }
 
 /// The plain text of a cite in a special form.
@@ -99,7 +78,7 @@ fn text_in(alloc: Global, style: &Style, entry: &Entry, form: SpecialForm) -> Re
 
 #[test]
 fn a_cite_in_a_special_form_has_a_part_of_it(rt: HostRuntime) -> Result<(), Fail> {
-    let style = style(rt.alloc())?;
+    let style = style(&rt, rt.alloc());
     let book = crazy_rich(rt.alloc())?;
     for (form, wanted) in &FORMS {
         let text = text_in(rt.alloc(), &style, &book, *form)?;
@@ -110,12 +89,12 @@ fn a_cite_in_a_special_form_has_a_part_of_it(rt: HostRuntime) -> Result<(), Fail
 
 #[test]
 fn a_sort_key_is_of_its_scope_and_its_source(rt: HostRuntime) -> Result<(), Fail> {
-    let style = style(rt.alloc())?;
+    let style = style(&rt, rt.alloc());
     let book = crazy_rich(rt.alloc())?;
-    let key = key(rt.alloc())?;
+    let key = style.bibliography().expect(&rt, "a layout");
     let first = CiteProperties::first(DisambiguateState::None);
     for (scope, sorting, wanted) in &KEYS {
-        let text = sort_key(rt.alloc(), &style, &book, &first, &key, *scope, *sorting)?;
+        let text = sort_key(rt.alloc(), &style, &book, &first, key, *scope, *sorting)?;
         assert_eq!(rt; text.as_str(), *wanted);
     }
     Ok(())

@@ -6,7 +6,6 @@ use std::alloc::Global;
 use std::io::{self, ErrorKind, Write};
 use std::process::Abort;
 use std::str;
-use std::test::Fail;
 
 /// What a session of lines of at most 40 bytes writes for an input.
 fn answered(rt: &impl Abort, alloc: Global, input: &[u8]) -> (Vec<u8>, Ending) {
@@ -26,7 +25,7 @@ fn assert_lines(rt: &impl Abort, alloc: Global, input: &[u8], wanted: &str) {
 }
 
 #[test]
-fn one_reply_a_line(rt: HostRuntime) -> Result<(), Fail> {
+fn one_reply_a_line(rt: HostRuntime) {
     let alloc = rt.alloc();
     let none =
         "{\"error\":{\"at\":\"\",\"code\":\"missing-member\",\"message\":\"a member is missing: \\\"op\\\"\"},\"id\":1}\n";
@@ -35,11 +34,10 @@ fn one_reply_a_line(rt: HostRuntime) -> Result<(), Fail> {
     // The last line may lack its end, and a line may end as those of Windows do.
     assert_lines(&rt, alloc, b"{\"id\":1}", none);
     assert_lines(&rt, alloc, b"{\"id\":1}\r\n", none);
-    Ok(())
 }
 
 #[test]
-fn faults_have_replies(rt: HostRuntime) -> Result<(), Fail> {
+fn faults_have_replies(rt: HostRuntime) {
     let alloc = rt.alloc();
     let utf8 =
         "{\"error\":{\"at\":\"\",\"code\":\"not-json\",\"message\":\"the request is no UTF-8\"},\"id\":null}\n";
@@ -74,11 +72,10 @@ fn faults_have_replies(rt: HostRuntime) -> Result<(), Fail> {
         assert!(rt; text.ends_with(",\"id\":null}\n"), "{text}");
         assert!(rt; ending == Ending::Input);
     }
-    Ok(())
 }
 
 #[test]
-fn values_of_a_line_are_bounded(rt: HostRuntime) -> Result<(), Fail> {
+fn values_of_a_line_are_bounded(rt: HostRuntime) {
     let alloc = rt.alloc();
     let limits = SessionLimits {
         values: 3,
@@ -94,17 +91,15 @@ fn values_of_a_line_are_bounded(rt: HostRuntime) -> Result<(), Fail> {
     assert!(rt; text.starts_with(wanted), "{text}");
     assert!(rt; text.ends_with(",\"id\":[0]}\n"), "{text}");
     assert!(rt; ending == Ending::Input);
-    Ok(())
 }
 
 #[test]
-fn a_line_after_a_long_one_is_read(rt: HostRuntime) -> Result<(), Fail> {
+fn a_line_after_a_long_one_is_read(rt: HostRuntime) {
     let alloc = rt.alloc();
     let input = b"{\"id\":\"0123456789012345678901234567890123456789\"}\n{\"id\":7}\n";
     let (output, _) = answered(&rt, alloc, input);
     let text = str::from_utf8(output.as_slice()).ok().expect(&rt, "text");
     assert!(rt; text.ends_with(",\"id\":7}\n"), "{text}");
-    Ok(())
 }
 
 /// A writer that refuses all.
@@ -122,11 +117,10 @@ impl Write for Closed {
 }
 
 #[test]
-fn a_closed_output_ends_the_session(rt: HostRuntime) -> Result<(), Fail> {
+fn a_closed_output_ends_the_session(rt: HostRuntime) {
     let alloc = rt.alloc();
     let mut session = Session::new(alloc, SessionLimits::of_strangers());
     let mut reader = &b"{\"id\":1}\n{\"id\":2}\n"[..];
     let ending = serve(alloc, &mut session, &mut reader, &mut Closed, 40);
     assert!(rt; ending == Ending::Output);
-    Ok(())
 }

@@ -26,3 +26,15 @@ pub(crate) fn assert_reply(
         .expect(rt, "memory");
     assert_of(rt, &reply.as_str(), &wanted, request);
 }
+
+/// Asserts the replies to requests, each of which is on a line before its reply. A line that begins
+/// with `#` is a comment.
+pub(crate) fn assert_replies(rt: &impl Abort, alloc: Global, session: &mut Session, turns: &str) {
+    let mut request = "";
+    for line in turns.lines() {
+        match line.strip_prefix("  => ") {
+            Some(wanted) => assert_reply(rt, alloc, session, request, wanted),
+            None => request = line,
+        }
+    }
+}

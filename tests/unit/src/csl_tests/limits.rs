@@ -2,18 +2,15 @@
 //! more, each number 24 before its text is made, the persons of an element their texts.
 
 use crate::assertions::{assert_of, assert_same, assert_text};
-use crate::csl_tests::lists::layout;
 use crate::shared::alone;
+use crate::wire::json;
 use csl::literature::{EntryType, MaybeTyped, Numeric, PageRanges, Person};
 use csl::render::render_within;
-use csl::style::{
-    InheritableNameOptions, LayoutRenderingElement, Name, NameVariable, Names, Number,
-    NumberVariable, PageVariable, StandardVariable, StyleSettings, Text,
-};
 use csl::{
     CiteProperties, Context, DisambiguateState, Entry, InstanceContext, RenderCsl, RenderError,
     Scope, Style,
 };
+use csl_wire::{Limits, style_of};
 use std::alloc::Global;
 use std::process::Abort;
 use std::test::Fail;
@@ -29,12 +26,11 @@ fn book(rt: &impl Abort, alloc: Global) -> Result<Entry, Fail> {
     Ok(book)
 }
 
-/// A style whose cite is one node.
-fn style_of(rt: &impl Abort, alloc: Global, node: LayoutRenderingElement) -> Result<Style, Fail> {
-    let citation = layout(rt, alloc, node);
-    let settings = StyleSettings::default();
-    let (macros, locales) = (Vec::new(alloc), Vec::new(alloc));
-    Ok(Style::new(alloc, settings, macros, citation, None, locales)?)
+/// A style whose cite is one node, which is given as JSON.
+fn style_of_node(rt: &impl Abort, alloc: Global, node: &str) -> Style {
+    let text = format!(in alloc; "{{\"citation\": {{\"children\": [{node}]}}}}");
+    let value = json(rt, alloc, text.expect(rt, "memory").as_str());
+    style_of(alloc, &value, Limits::none()).expect(rt, "a style")
 }
 
 /// A first cite of the book.
@@ -63,94 +59,71 @@ fn rendered_under(
     (error, ctx.room())
 }
 
-/// Asserts that a node takes so many bytes: each smaller limit refuses it, at one push or another,
-/// and nothing is left then.
-fn assert_taken(
-    rt: &impl Abort,
-    alloc: Global,
-    taken: u64,
-    node: LayoutRenderingElement,
-) -> Result<(), Fail> {
-    let (style, book) = (style_of(rt, alloc, node)?, book(rt, alloc)?);
-    for limit in 0..taken {
-        let found = rendered_under(rt, alloc, &style, &book, limit);
-        assert_of(rt, &found, &(Some(RenderError::Memory), 0), limit);
-    }
-    for more in [0, 1, 1000] {
-        let found = rendered_under(rt, alloc, &style, &book, taken + more);
-        assert_same(rt, &found, &(None, more));
+/// Nodes, and the bytes that each takes: an element, 64; its numbers, and the texts that are made first;
+/// a leaf, 64, and its bytes.
+static TAKEN: [(&str, u64); 9] = [
+    // two numbers, and "2, 3"
+    (
+        r#"{"number": {"variable": "edition"}}"#,
+        64 + 2 * 24 + 64 + 4,
+    ),
+    (r#"{"text": {"variable": "edition"}}"#, 64 + 2 * 24 + 64 + 4),
+    // a number, "n", "a", and "n4a"
+    (
+        r#"{"number": {"variable": "volume"}}"#,
+        64 + 24 + 1 + 1 + 64 + 3,
+    ),
+    // a text in place of a number
+    (r#"{"text": {"variable": "issue"}}"#, 64 + 3 + 64 + 3),
+    // four pages and a comma, and four digits, two en dashes and ", "
+    (
+        r#"{"number": {"variable": "page"}}"#,
+        64 + 5 * 24 + 64 + 4 + 2 * 3 + 2,
+    ),
+    (
+        r#"{"text": {"variable": "page"}}"#,
+        64 + 5 * 24 + 64 + 4 + 2 * 3 + 2,
+    ),
+    // the value, and "ab"
+    (
+        r#"{"text": {"value": "a.b.", "strip-periods": true}}"#,
+        64 + 4 + 64 + 2,
+    ),
+    // an element of the name, "Kevin Kwan", and a person of 9 bytes
+    (
+        r#"{"names": {"variable": ["author"]}}"#,
+        64 + 64 + 64 + 10 + 9,
+    ),
+    // "K. Kwan", and five times the text after an initial
+    (
+        r#"{"names": {"variable": ["author"], "initialize-with": "."}}"#,
+        64 + 64 + 64 + 7 + 9 + 5,
+    ),
+];
+
+/// Each smaller limit refuses the node, at one push or another, and nothing is left then.
+#[test]
+fn nodes_take_bytes_before_they_are_made(rt: HostRuntime) -> Result<(), Fail> {
+    let alloc = rt.alloc();
+    let book = book(&rt, alloc)?;
+    for &(node, taken) in &TAKEN {
+        let style = style_of_node(&rt, alloc, node);
+        for limit in 0..taken {
+            let found = rendered_under(&rt, alloc, &style, &book, limit);
+            assert_of(&rt, &found, &(Some(RenderError::Memory), 0), limit);
+        }
+        for more in [0, 1, 1000] {
+            let found = rendered_under(&rt, alloc, &style, &book, taken + more);
+            assert_of(&rt, &found, &(None, more), node);
+        }
     }
     Ok(())
 }
 
 #[test]
-fn numbers_and_texts_take_bytes_before_they_are_made(rt: HostRuntime) -> Result<(), Fail> {
-    let alloc = rt.alloc();
-    // An element; two numbers; a leaf of the four bytes of "2, 3".
-    let edition = 64 + 2 * 24 + 64 + 4;
-    let number = Number::new(NumberVariable::Edition.into());
-    assert_taken(&rt, alloc, edition, number.into())?;
-    let text = Text::variable(NumberVariable::Edition.into());
-    assert_taken(&rt, alloc, edition, text.into())?;
-    // An element; a number, with "n" and "a"; a leaf of "n4a".
-    let number = Number::new(NumberVariable::Volume.into());
-    assert_taken(&rt, alloc, 64 + 24 + 1 + 1 + 64 + 3, number.into())?;
-    // An element; a text in place of a number; a leaf of it.
-    let text = Text::variable(NumberVariable::Issue.into());
-    assert_taken(&rt, alloc, 64 + 3 + 64 + 3, text.into())?;
-    // An element; four pages and a comma; a leaf with four digits, two en dashes and ", ".
-    let pages = 64 + 5 * 24 + 64 + 4 + 2 * 3 + 2;
-    let number = Number::new(PageVariable::Page.into());
-    assert_taken(&rt, alloc, pages, number.into())?;
-    let text = Text::variable(PageVariable::Page.into());
-    assert_taken(&rt, alloc, pages, text.into())?;
-    // An element; the value; a leaf of "ab".
-    let text = Text {
-        strip_periods: true,
-        ..Text::value(alloc, "a.b.")?
-    };
-    assert_taken(&rt, alloc, 64 + 4 + 64 + 2, text.into())
-}
-
-/// The authors, with this text after each initial if there is one.
-fn authors(
-    rt: &impl Abort,
-    alloc: Global,
-    initialize_with: Option<String>,
-) -> LayoutRenderingElement {
-    let name = Name {
-        options: InheritableNameOptions {
-            initialize_with,
-            ..InheritableNameOptions::default()
-        },
-        ..Name::new(alloc)
-    };
-    Names {
-        children: alone(rt, alloc, name.into()),
-        ..Names::new(alloc, alone(rt, alloc, NameVariable::Author))
-    }
-    .into()
-}
-
-#[test]
-fn names_take_bytes_for_their_persons(rt: HostRuntime) -> Result<(), Fail> {
-    let alloc = rt.alloc();
-    // An element of the names, and one of the name; a leaf of "Kevin Kwan"; a person of 9 bytes.
-    let whole = 64 + 64 + 64 + 10 + 9;
-    assert_taken(&rt, alloc, whole, authors(&rt, alloc, None))?;
-    // A leaf of "K. Kwan"; five times the text after an initial.
-    let (short, period) = (64 + 64 + 64 + 7 + 9 + 5, String::from_str(alloc, ".")?);
-    assert_taken(&rt, alloc, short, authors(&rt, alloc, Some(period)))
-}
-
-#[test]
 fn a_rendering_leaves_the_rest_of_its_room(rt: HostRuntime) -> Result<(), Fail> {
     let alloc = rt.alloc();
-    let style = style_of(
-        &rt,
-        alloc,
-        Text::variable(StandardVariable::Title.into()).into(),
-    )?;
+    let style = style_of_node(&rt, alloc, r#"{"text": {"variable": "title"}}"#);
     let (book, first) = (
         book(&rt, alloc)?,
         CiteProperties::first(DisambiguateState::None),

@@ -1,36 +1,20 @@
 //! Renderers of a request, with a limit.
 
 use crate::assertions::{assert_of, assert_text};
-use crate::csl_tests::lists::layout;
 use crate::shared::{alone, put};
+use crate::wire::json;
 use csl::literature::{Entry, EntryType, Person};
-use csl::style::{
-    Affixes, Group, InheritableNameOptions, LayoutRenderingElement, NameVariable, Names,
-    StandardVariable, StyleSettings, Text,
-};
 use csl::{
     CiteProperties, DisambiguateState, Error, Rendered, Renderer, Scope, Sorting, SpecialForm,
     Style,
 };
+use csl_wire::{Limits, style_of};
 use std::alloc::Global;
 use std::process::Abort;
 use std::test::Fail;
 
-/// A style with these settings, whose cites and whose bibliography lines are one node each.
-fn style_of(
-    rt: &impl Abort,
-    alloc: Global,
-    settings: StyleSettings,
-    cite: LayoutRenderingElement,
-    line: LayoutRenderingElement,
-) -> Result<Style, Fail> {
-    let (citation, bibliography) = (layout(rt, alloc, cite), Some(layout(rt, alloc, line)));
-    let (macros, locales) = (Vec::new(alloc), Vec::new(alloc));
-    Ok(Style::new(alloc, settings, macros, citation, bibliography, locales)?)
-}
-
-fn title() -> Text {
-    Text::variable(StandardVariable::Title.into())
+fn style(rt: &impl Abort, alloc: Global, text: &str) -> Style {
+    style_of(alloc, &json(rt, alloc, text), Limits::none()).expect(rt, "a style")
 }
 
 fn first() -> CiteProperties<'static> {
@@ -45,6 +29,14 @@ fn is_written<R: Drop>(rt: &impl Abort, answer: Result<R, Error>) -> bool {
         Err(_) => panic!(rt; "another error"),
     }
 }
+
+/// A style whose cites are titles, and whose lines are titles with a period.
+const TITLES: &str = r#"
+{
+  "citation": {"children": [{"text": {"variable": "title"}}]},
+  "bibliography": {"children": [{"text": {"variable": "title", "suffix": "."}}]}
+}
+"#;
 
 /// The cite takes 64 bytes for its element, and 74 for its title of 10 bytes.
 const CITE: u64 = 64 + 74;
@@ -68,12 +60,7 @@ static LIMITS: [(u64, (bool, bool, bool, bool), u64); 8] = [
 #[test]
 fn a_limit_is_one_for_all_calls(rt: HostRuntime) -> Result<(), Fail> {
     let (alloc, form, sorting) = (rt.alloc(), SpecialForm::SuppressAuthor, Sorting::Variable);
-    let ended = Text {
-        affixes: Affixes::after(alloc, ".")?,
-        ..title()
-    };
-    let settings = StyleSettings::default();
-    let style = style_of(&rt, alloc, settings, title().into(), ended.into())?;
+    let style = style(&rt, alloc, TITLES);
     let entry = Entry::titled(alloc, "aeon", EntryType::Periodical, "Aeon & <b>")?;
     let (layout, scope) = (style.citation(), Scope::Citation);
     for &(limit, wanted, left) in &LIMITS {
@@ -90,21 +77,18 @@ fn a_limit_is_one_for_all_calls(rt: HostRuntime) -> Result<(), Fail> {
     Ok(())
 }
 
-/// Options of names with a delimiter.
-fn delimited(alloc: Global, delimiter: &str) -> Result<InheritableNameOptions, Fail> {
-    Ok(InheritableNameOptions {
-        delimiter: Some(String::from_str(alloc, delimiter)?),
-        ..InheritableNameOptions::default()
-    })
+/// A style of authors and titles. Semicolons are between the authors of a cite, slashes between those of
+/// the bibliography.
+const AUTHORS: &str = r#"
+{
+  "citation": {"name-delimiter": "; ", "children": [
+    {"group": {"delimiter": ", ", "children": [
+      {"names": {"variable": ["author"]}}, {"text": {"variable": "title"}}]}}]},
+  "bibliography": {"name-delimiter": "/", "children": [
+    {"group": {"delimiter": ", ", "children": [
+      {"names": {"variable": ["author"]}}, {"text": {"variable": "title"}}]}}]}
 }
-
-/// The authors and the title.
-fn creation(rt: &impl Abort, alloc: Global) -> Result<LayoutRenderingElement, Fail> {
-    let authors = Names::new(alloc, alone(rt, alloc, NameVariable::Author));
-    let mut parts = alone(rt, alloc, authors.into());
-    put(rt, &mut parts, title().into());
-    Ok(Group::delimited(alloc, ", ", parts)?.into())
-}
+"#;
 
 /// Asserts the plain text of a rendering.
 fn assert_rendered(
@@ -118,17 +102,10 @@ fn assert_rendered(
     Ok(())
 }
 
-/// Semicolons are between the authors of a cite, slashes between those of the bibliography.
 #[test]
 fn a_renderer_keeps_scope_form_and_text(rt: HostRuntime) -> Result<(), Fail> {
     let alloc = rt.alloc();
-    let settings = StyleSettings {
-        citation_names: delimited(alloc, "; ")?,
-        bibliography_names: delimited(alloc, "/")?,
-        ..StyleSettings::default()
-    };
-    let (cite, line) = (creation(&rt, alloc)?, creation(&rt, alloc)?);
-    let style = style_of(&rt, alloc, settings, cite, line)?;
+    let style = style(&rt, alloc, AUTHORS);
     let mut authors = alone(&rt, alloc, Person::new(alloc, "Q&A", "Ann")?);
     put(&rt, &mut authors, Person::new(alloc, "Roe", "Bea")?);
     let book = Entry::titled(alloc, "q", EntryType::Book, "Answers")?.with_authors(authors);

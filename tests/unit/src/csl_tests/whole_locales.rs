@@ -1,9 +1,10 @@
 //! Tests that the locales have all that CSL's own have: how many terms, ordinals and parts of dates,
 //! and a sum over all of them and the options. The expected figures are those that
-//! `tools/compare_locales --sums` prints of the files of CSL's own locales. Also the tags of
+//! `tools/compare_locales` prints of the files of CSL's own locales. Also the tags of
 //! languages.
 
 use crate::assertions::assert_same;
+use crate::shared::assert_cases;
 use csl::style::{Date, DatePart, Locale, OrdinalTerm, TermEntry};
 use csl::{
     Language, Memory, brazilian_portuguese, british_english, dutch, english, french, german,
@@ -12,7 +13,6 @@ use csl::{
 use std::alloc::Global;
 use std::fmt::Debug;
 use std::process::Abort;
-use std::test::Fail;
 
 /// Where the sum of a row begins, and by what each byte multiplies it.
 const BASIS: u64 = 0xcbf2_9ce4_8422_2325;
@@ -115,69 +115,24 @@ fn add_option(rt: &impl Abort, sum: &mut Sum, name: &str, is_set: bool) {
     sum.end_row();
 }
 
+/// Languages by their tags: the name of each, how many terms, ordinals and parts of dates its locale
+/// has, and the sum over its rows.
+const LANGUAGES: &str = "
+en-US => English 204 17 6 0xab2ad11d0ac68c55
+en-GB => BritishEnglish 204 17 6 0x58d6cc0380abd4e0
+de-DE => German 208 11 6 0xec7122845fad860b
+fr-FR => French 204 13 6 0xefaee49e058a386c
+es-ES => Spanish 204 11 6 0x78bcc5fe92ffecf4
+it-IT => Italian 206 33 6 0x16929069ee46e5e5
+pt-BR => BrazilianPortuguese 204 23 6 0xf8b1d905590ec253
+nl-NL => Dutch 204 29 6 0xfd35a93be425c7f0
+pl-PL => Polish 204 11 6 0x9786bda4261a8152
+ja-JP => Japanese 204 17 6 0x85d509ed2206e5d9
+zh-CN => SimplifiedChinese 205 11 6 0x8a85ac5fbec94aea
+";
+
 /// How many terms, ordinals and parts of dates a locale has, and the sum over its rows.
-type Figures = (usize, usize, usize, u64);
-
-/// Each language with its tag and its figures.
-static LANGUAGES: [(&str, Language, Figures); 11] = [
-    (
-        "en-US",
-        Language::English,
-        (204, 17, 6, 0xab2a_d11d_0ac6_8c55),
-    ),
-    (
-        "en-GB",
-        Language::BritishEnglish,
-        (204, 17, 6, 0x58d6_cc03_80ab_d4e0),
-    ),
-    (
-        "de-DE",
-        Language::German,
-        (208, 11, 6, 0xec71_2284_5fad_860b),
-    ),
-    (
-        "fr-FR",
-        Language::French,
-        (204, 13, 6, 0xefae_e49e_058a_386c),
-    ),
-    (
-        "es-ES",
-        Language::Spanish,
-        (204, 11, 6, 0x78bc_c5fe_92ff_ecf4),
-    ),
-    (
-        "it-IT",
-        Language::Italian,
-        (206, 33, 6, 0x1692_9069_ee46_e5e5),
-    ),
-    (
-        "pt-BR",
-        Language::BrazilianPortuguese,
-        (204, 23, 6, 0xf8b1_d905_590e_c253),
-    ),
-    (
-        "nl-NL",
-        Language::Dutch,
-        (204, 29, 6, 0xfd35_a93b_e425_c7f0),
-    ),
-    (
-        "pl-PL",
-        Language::Polish,
-        (204, 11, 6, 0x9786_bda4_261a_8152),
-    ),
-    (
-        "ja-JP",
-        Language::Japanese,
-        (204, 17, 6, 0x85d5_09ed_2206_e5d9),
-    ),
-    (
-        "zh-CN",
-        Language::SimplifiedChinese,
-        (205, 11, 6, 0x8a85_ac5f_bec9_4aea),
-    ),
-];
-
-fn figures(rt: &impl Abort, alloc: Global, locale: &Locale) -> Figures {
+fn figures(rt: &impl Abort, alloc: Global, locale: &Locale) -> String {
     let mut sum = Sum::new(alloc);
     for term in &locale.terms {
         add_term(rt, &mut sum, term);
@@ -193,7 +148,8 @@ fn figures(rt: &impl Abort, alloc: Global, locale: &Locale) -> Figures {
     add_option(rt, &mut sum, "punctuation_in_quote", quotes);
     let days = locale.limit_day_ordinals_to_day_1;
     add_option(rt, &mut sum, "limit_day_ordinals_to_day_1", days);
-    (locale.terms.len(), locale.ordinals.len(), parts, sum.rows)
+    let (terms, ordinals, sum) = (locale.terms.len(), locale.ordinals.len(), sum.rows);
+    format!(in alloc; "{terms} {ordinals} {parts} {sum:#018x}").expect(rt, "memory")
 }
 
 /// The locale of a language, by the call of its name.
@@ -214,43 +170,56 @@ fn locale_by_name(alloc: Global, language: Language) -> Result<Locale, Memory> {
 }
 
 #[test]
-fn languages_have_all_of_their_locales(rt: HostRuntime) -> Result<(), Fail> {
+fn languages_have_all_of_their_locales(rt: HostRuntime) {
     let alloc = rt.alloc();
-    for (tag, language, wanted) in &LANGUAGES {
-        assert_same(&rt, &language.tag(), tag);
-        assert_same(&rt, &Language::from_tag(*tag), &Some(*language));
-        let (locale, by_name) = (language.locale(alloc)?, locale_by_name(alloc, *language)?);
-        assert_same(&rt, &figures(&rt, alloc, &locale), wanted);
-        assert_same(&rt, &figures(&rt, alloc, &by_name), wanted);
-    }
-    Ok(())
+    assert_cases(
+        &rt,
+        alloc,
+        LANGUAGES,
+        &|tag| {
+            let language = Language::from_tag(tag).expect(&rt, "a language");
+            assert_same(&rt, &language.tag(), &tag);
+            let [locale, by_name] = [language.locale(alloc), locale_by_name(alloc, language)].map(
+                |locale| figures(&rt, alloc, &locale.expect(&rt, "memory")),
+            );
+            assert_same(&rt, &locale.as_str(), &by_name.as_str());
+            format!(in alloc; "{language:?} {locale}").expect(&rt, "memory")
+        },
+    );
 }
 
 /// Texts, and the languages that they are tags of: in either case, with `_` for `-`, and without a
 /// region.
-static TAGS: [(&str, Option<Language>); 17] = [
-    ("EN-us", Some(Language::English)),
-    ("en_US", Some(Language::English)),
-    ("en", Some(Language::English)),
-    ("en_gb", Some(Language::BritishEnglish)),
-    ("DE", Some(Language::German)),
-    ("pt", Some(Language::BrazilianPortuguese)),
-    ("pt_br", Some(Language::BrazilianPortuguese)),
-    ("zh", Some(Language::SimplifiedChinese)),
-    ("pt-PT", None),
-    ("es-MX", None),
-    ("zh-TW", None),
-    ("da", None),
-    ("", None),
-    ("-", None),
-    ("en-", None),
-    ("en US", None),
-    ("English", None),
-];
+const TAGS: &str = "
+EN-us => Some(English)
+en_US => Some(English)
+en => Some(English)
+en_gb => Some(BritishEnglish)
+DE => Some(German)
+pt => Some(BrazilianPortuguese)
+pt_br => Some(BrazilianPortuguese)
+zh => Some(SimplifiedChinese)
+pt-PT => None
+es-MX => None
+zh-TW => None
+da => None
+- => None
+en- => None
+en US => None
+English => None
+";
 
 #[test]
 fn tags_find_languages(rt: HostRuntime) {
-    for (tag, language) in &TAGS {
-        assert_same(&rt, &Language::from_tag(*tag), language);
-    }
+    let alloc = rt.alloc();
+    assert_cases(
+        &rt,
+        alloc,
+        TAGS,
+        &|tag| {
+            let language = Language::from_tag(tag);
+            format!(in alloc; "{language:?}").expect(&rt, "memory")
+        },
+    );
+    assert_same(&rt, &Language::from_tag(""), &None);
 }

@@ -1,6 +1,8 @@
 //! The work and the cite of docs/WIRE.md, in the style of that page.
 
-use crate::csl_wire_cite_tests::reading::{json, read_entry};
+use crate::csl_wire_cite_tests::reading::read_entry;
+use crate::shared::assert_cases;
+use crate::wire::json;
 use csl::{
     BufWriteFormat, CiteProperties, DisambiguateState, Style, bibliography_entry, cite, cite_in,
 };
@@ -53,22 +55,15 @@ const WORK: &str = r#"
 }
 "#;
 
-const CITE: &str = r#"
-{
-  "position": "ibid-with-locator",
-  "near-note": true,
-  "citation-number": 3,
-  "first-reference-note-number": 6,
-  "locator": {"label": "page", "value": "7"},
-  "year-suffix": "a"
-}
+/// Cites of the work, and their texts.
+const CITES: &str = r#"
+{"position": "ibid-with-locator", "near-note": true, "citation-number": 3,
+  "first-reference-note-number": 6, "locator": {"label": "page", "value": "7"}, "year-suffix": "a"}
+  => (Kwan, 2014a)
+{} => (Kwan, 2014)
+{"only": "author"} => (Kwan)
+{"form": "no-author"} => (2014)
 "#;
-
-/// The style of a text.
-fn read_style(rt: &impl Abort, alloc: Global, text: &str) -> Style {
-    let value = json(rt, alloc, text);
-    style_of(alloc, &value, Limits::of_strangers()).expect(rt, "a style")
-}
 
 /// The plain text of a cite of an entry.
 fn cite_text(
@@ -84,45 +79,28 @@ fn cite_text(
         Some(form) => cite_in(alloc, style, entry, &asked.properties, form),
         None => cite(alloc, style, entry, &asked.properties),
     };
-    let rendered = rendered.expect(rt, "memory");
-    let text = rendered.content.to_text(alloc, BufWriteFormat::Plain);
-    drop(rendered);
-    drop(asked);
+    let content = rendered.expect(rt, "memory").content;
+    let text = content.to_text(alloc, BufWriteFormat::Plain);
     text.expect(rt, "memory")
 }
 
 #[test]
-fn cites_of_the_page(rt: HostRuntime) {
-    let style = read_style(&rt, rt.alloc(), STYLE);
-    let entry = read_entry(&rt, rt.alloc(), WORK).expect(&rt, "a work");
-    for (text, wanted) in [
-        (CITE, "(Kwan, 2014a)"),
-        ("{}", "(Kwan, 2014)"),
-        (r#"{"only": "author"}"#, "(Kwan)"),
-        (r#"{"form": "no-author"}"#, "(2014)"),
-    ] {
-        let came = cite_text(&rt, rt.alloc(), &style, &entry, text);
-        assert_eq!(&rt; came.as_str(), wanted, "of {text}");
-        drop(came);
-    }
-    drop(entry);
-    drop(style);
-}
-
-#[test]
-fn line_of_the_page(rt: HostRuntime) {
+fn work_of_the_page(rt: HostRuntime) {
     let alloc = rt.alloc();
-    let style = read_style(&rt, alloc, STYLE);
+    let style = style_of(alloc, &json(&rt, alloc, STYLE), Limits::of_strangers());
+    let style = style.expect(&rt, "a style");
     let entry = read_entry(&rt, alloc, WORK).expect(&rt, "a work");
+    assert_cases(
+        &rt,
+        alloc,
+        CITES,
+        &|text| { cite_text(&rt, alloc, &style, &entry, text) },
+    );
     let first = CiteProperties::first(DisambiguateState::None);
     let line = bibliography_entry(alloc, &style, &entry, &first).expect(&rt, "memory");
-    let line = line.expect(&rt, "a line");
-    let html = line.content.to_text(alloc, BufWriteFormat::Html);
-    drop(line);
-    drop(entry);
-    drop(style);
-    let html = html.expect(&rt, "memory");
+    let content = line.expect(&rt, "a line").content;
+    let html = content.to_text(alloc, BufWriteFormat::Html);
     let wanted =
         r#"Kwan, Kevin. <span style="font-style: italic;">Crazy rich moss: a survey.</span>"#;
-    assert_eq!(&rt; html.as_str(), wanted);
+    assert_eq!(&rt; html.expect(&rt, "memory").as_str(), wanted);
 }

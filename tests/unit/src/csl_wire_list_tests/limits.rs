@@ -1,116 +1,106 @@
 //! How large the options and the documents of a stranger may be.
 
-use crate::csl_wire_list_tests::reading::{citation_options, document, json};
+use crate::shared::{assert_cases, repeated};
+use crate::wire::{Bound, assert_bounds, json, told};
 use csl_wire_list::{DocumentLimits, OptionLimits, citation_options_of, document_of};
 use std::alloc::Global;
 use std::process::Abort;
 
-/// The texts in a row, as one.
-fn repeated(rt: &impl Abort, alloc: Global, text: &str, count: usize) -> String {
-    let mut all = String::new(alloc);
-    for _ in 0..count {
-        all.push_str(text).expect(rt, "memory");
-    }
-    all
-}
-
-/// The text of a pattern, with a text in the place of `@`.
-fn filled(rt: &impl Abort, alloc: Global, pattern: &str, text: &str) -> String {
-    let (before, after) = pattern.split_once('@').unwrap_or((pattern, ""));
-    format!(in alloc; "{before}{text}{after}").expect(rt, "memory")
-}
-
-/// Whether what came is the refusal.
-fn assert_refused(rt: &impl Abort, came: &str, wanted: &str) {
-    assert_eq!(rt; came, wanted);
-}
-
-#[test]
-fn texts_of_options(rt: HostRuntime) {
-    for pattern in [
+static OPTIONS: [Bound; 4] = [
+    (
         r#"{"layout": {"delimiter": "@"}}"#,
+        ",",
+        200,
+        "/layout/delimiter too-long: the text is too long",
+    ),
+    (
         r#"{"year-suffix-delimiter": "@"}"#,
+        ",",
+        200,
+        "/year-suffix-delimiter too-long: the text is too long",
+    ),
+    (
         r#"{"sort": [{"macro": "@"}]}"#,
-    ] {
-        let text = repeated(&rt, rt.alloc(), ",", 200);
-        let text = filled(&rt, rt.alloc(), pattern, text.as_str());
-        let came = citation_options(&rt, rt.alloc(), text.as_str());
-        assert!(&rt; !came.as_str().contains("too-long"), "of {pattern}");
-        let text = repeated(&rt, rt.alloc(), ",", 201);
-        let text = filled(&rt, rt.alloc(), pattern, text.as_str());
-        let came = citation_options(&rt, rt.alloc(), text.as_str());
-        assert!(&rt;
-            came.as_str().contains("too-long: the text is too long"),
-            "of {pattern}"
-        );
-        let value = json(&rt, rt.alloc(), text.as_str());
-        let options = citation_options_of(rt.alloc(), &value, OptionLimits::none());
-        assert!(&rt; options.is_ok(), "of {pattern}");
+        ",",
+        200,
+        "/sort/0/macro too-long: the text is too long",
+    ),
+    (
+        r#"{"sort": [@{"macro": "a"}]}"#,
+        r#"{"macro": "a"}, "#,
+        19,
+        "/sort too-long: there are too many keys",
+    ),
+];
+
+/// What options of citations are refused for under limits; nothing if they are not.
+fn refusal_of_options(rt: &impl Abort, alloc: Global, text: &str, limits: OptionLimits) -> String {
+    match citation_options_of(alloc, &json(rt, alloc, text), limits) {
+        Ok(_) => String::new(alloc),
+        Err(error) => told(rt, alloc, error),
     }
 }
 
 #[test]
-fn keys_of_options(rt: HostRuntime) {
-    let pattern = r#"{"sort": [@{"macro": "a"}]}"#;
-    let most = repeated(&rt, rt.alloc(), r#"{"macro": "a"}, "#, 19);
-    let text = filled(&rt, rt.alloc(), pattern, most.as_str());
-    let came = citation_options(&rt, rt.alloc(), text.as_str());
-    assert!(&rt; !came.as_str().contains("too-long"));
-    let more = repeated(&rt, rt.alloc(), r#"{"macro": "a"}, "#, 20);
-    let text = filled(&rt, rt.alloc(), pattern, more.as_str());
-    let came = citation_options(&rt, rt.alloc(), text.as_str());
-    assert_refused(
+fn sizes_of_options(rt: HostRuntime) {
+    let alloc = rt.alloc();
+    assert_bounds(
         &rt,
-        came.as_str(),
-        "/sort too-long: there are too many keys",
+        alloc,
+        &OPTIONS,
+        &|text| {
+            let all = refusal_of_options(&rt, alloc, text, OptionLimits::none());
+            assert!(&rt; all.is_empty());
+            refusal_of_options(&rt, alloc, text, OptionLimits::of_strangers())
+        },
     );
-    let value = json(&rt, rt.alloc(), text.as_str());
-    assert!(&rt; citation_options_of(rt.alloc(), &value, OptionLimits::none()).is_ok());
+}
+
+static DOCUMENTS: [Bound; 3] = [
+    (
+        r#"{"citations": [{"items": [{"work": "a", "prefix": "@"}]}]}"#,
+        "7",
+        10_000,
+        "/citations/0/items/0/prefix too-long: the text is too long",
+    ),
+    (
+        r#"{"citations": [{"items": [{"work": "a", "suffix": "@"}]}]}"#,
+        "7",
+        10_000,
+        "/citations/0/items/0/suffix too-long: the text is too long",
+    ),
+    (
+        r#"{"citations": [{"items": [{"work": "a", "locator": {"label": "page", "value": "@"}}]}]}"#,
+        "7",
+        500,
+        "/citations/0/items/0/locator/value too-long: the text is too long",
+    ),
+];
+
+/// What a document is refused for under limits; nothing if it is not. Without limits it is read.
+fn refusal_of_document(
+    rt: &impl Abort,
+    alloc: Global,
+    text: &str,
+    limits: DocumentLimits,
+) -> String {
+    let value = json(rt, alloc, text);
+    assert!(rt; document_of(alloc, &value, DocumentLimits::none()).is_ok());
+    match document_of(alloc, &value, limits) {
+        Ok(_) => String::new(alloc),
+        Err(error) => told(rt, alloc, error),
+    }
 }
 
 #[test]
 fn texts_of_documents(rt: HostRuntime) {
-    for (pattern, most, place) in [
-        (
-            r#"{"citations": [{"items": [{"work": "a", "prefix": "@"}]}]}"#,
-            10_000,
-            "prefix",
-        ),
-        (
-            r#"{"citations": [{"items": [{"work": "a", "suffix": "@"}]}]}"#,
-            10_000,
-            "suffix",
-        ),
-        (
-            r#"{"citations": [{"items": [{"work": "a", "locator": {"label": "page", "value": "@"}}]}]}"#,
-            500,
-            "locator/value",
-        ),
-    ] {
-        let text = repeated(&rt, rt.alloc(), "7", most);
-        let text = filled(&rt, rt.alloc(), pattern, text.as_str());
-        let came = document(&rt, rt.alloc(), text.as_str());
-        assert!(&rt; !came.as_str().contains("too-long"), "of {place}");
-        let text = repeated(&rt, rt.alloc(), "7", most + 1);
-        let text = filled(&rt, rt.alloc(), pattern, text.as_str());
-        let came = document(&rt, rt.alloc(), text.as_str());
-        let wanted = format!(in rt.alloc();
-            "/citations/0/items/0/{place} too-long: the text is too long"
-        );
-        assert_refused(&rt, came.as_str(), wanted.expect(&rt, "memory").as_str());
-        let value = json(&rt, rt.alloc(), text.as_str());
-        assert!(&rt; document_of(rt.alloc(), &value, DocumentLimits::none()).is_ok());
-    }
-}
-
-/// A document with so many citations, each of so many cites, and with so many works.
-fn sized(rt: &impl Abort, alloc: Global, citations: usize, cites: usize, works: usize) -> String {
-    let cites = repeated(rt, alloc, r#", {"work": "a"}"#, cites - 1);
-    let citation = format!(in alloc; ", {{\"items\": [{{\"work\": \"b\"}}{cites}]}}");
-    let citations = repeated(rt, alloc, citation.expect(rt, "memory").as_str(), citations);
-    let works = repeated(rt, alloc, r#", "c""#, works);
-    let text = format!(in alloc; "{{\"citations\": [{{}}{citations}], \"works\": [\"d\"{works}]}}");
-    text.expect(rt, "memory")
+    let alloc = rt.alloc();
+    assert_bounds(
+        &rt,
+        alloc,
+        &DOCUMENTS,
+        &|text| { refusal_of_document(&rt, alloc, text, DocumentLimits::of_strangers()) },
+    );
 }
 
 /// Limits of few.
@@ -122,43 +112,39 @@ const FEW: DocumentLimits = DocumentLimits {
     locator: 10,
 };
 
-#[test]
-fn sizes_of_documents(rt: HostRuntime) {
-    for (citations, cites, works, wanted) in [
-        (3, 2, 2, ""),
-        (4, 1, 2, "/citations too-long: there are too many citations"),
-        (1, 7, 2, "/citations too-long: there are too many cites"),
-        (3, 3, 2, "/citations too-long: there are too many cites"),
-        (3, 2, 3, "/works too-long: there are too many works"),
-    ] {
-        let text = sized(&rt, rt.alloc(), citations, cites, works);
-        let value = json(&rt, rt.alloc(), text.as_str());
-        let came = match document_of(rt.alloc(), &value, FEW) {
-            Ok(_) => String::new(rt.alloc()),
-            Err(error) => crate::csl_wire_list_tests::reading::told(&rt, rt.alloc(), error),
-        };
-        assert_eq!(&rt; came.as_str(), wanted);
-        assert!(&rt; document_of(rt.alloc(), &value, DocumentLimits::none()).is_ok());
-    }
+/// How many citations a document has beside an empty one, of how many cites each, and how many
+/// works.
+const SIZES: &str = "
+3 2 3 =>
+4 1 3 => /citations too-long: there are too many citations
+1 7 3 => /citations too-long: there are too many cites
+3 3 3 => /citations too-long: there are too many cites
+3 2 4 => /works too-long: there are too many works
+";
+
+/// A document of such sizes.
+fn sized(rt: &impl Abort, alloc: Global, sizes: &str) -> String {
+    let mut numbers = sizes.split(' ').map(|it| it.parse::<usize>().ok());
+    let mut next = || numbers.next().flatten().expect(rt, "a number");
+    let (citations, cites, works) = (next(), next(), next());
+    let cites = repeated(rt, alloc, r#", {"work": "a"}"#, cites - 1);
+    let citation = format!(in alloc; ", {{\"items\": [{{\"work\": \"b\"}}{cites}]}}");
+    let citations = repeated(rt, alloc, citation.expect(rt, "memory").as_str(), citations);
+    let works = repeated(rt, alloc, r#", "c""#, works - 1);
+    let text = format!(in alloc; "{{\"citations\": [{{}}{citations}], \"works\": [\"d\"{works}]}}");
+    text.expect(rt, "memory")
 }
 
 #[test]
-fn limits_of_strangers(rt: HostRuntime) {
-    let options = OptionLimits::of_strangers();
-    assert_eq!(&rt;
-        options,
-        OptionLimits {
-            text: 200,
-            keys: 20
-        }
+fn sizes_of_documents(rt: HostRuntime) {
+    let alloc = rt.alloc();
+    assert_cases(
+        &rt,
+        alloc,
+        SIZES,
+        &|sizes| {
+            let text = sized(&rt, alloc, sizes);
+            refusal_of_document(&rt, alloc, text.as_str(), FEW)
+        },
     );
-    let document = DocumentLimits::of_strangers();
-    let wanted = DocumentLimits {
-        citations: 10_000,
-        cites: 20_000,
-        works: 10_000,
-        text: 10_000,
-        locator: 500,
-    };
-    assert_eq!(&rt; document, wanted);
 }

@@ -1,195 +1,171 @@
-//! Options of styles, by their attributes in CSL 1.0.2.
+//! Options of styles, by their attributes in CSL 1.0.2, and why they are refused.
 
 use crate::csl_wire_list_tests::reading::{
-    bibliography_options, citation_options, json, options_of_style, options_text,
+    bibliography_options, citation_options, options_of_style, options_text,
 };
+use crate::shared::assert_cases;
+use crate::wire::json;
 use csl_wire::{Form, Limits, Reader};
 use csl_wire_list::{OptionLimits, list_style_in};
 
-/// Options of citations, and what is read.
-static CITATIONS: [(&str, &str); 12] = [
-    (
-        "{}",
-        "||;; None None None None; 5; false false ByCite false",
-    ),
-    (
-        r#"{"layout": {"prefix": "(", "suffix": ")", "delimiter": "; "}}"#,
-        "(|)|; ;; None None None None; 5; false false ByCite false",
-    ),
-    (
-        r#"{"layout": {"suffix": "."}, "sort": null}"#,
-        "|.|;; None None None None; 5; false false ByCite false",
-    ),
-    (
-        r#"{"sort": [{"macro": "author"}, {"variable": "issued", "sort": "descending"}, {"variable": "title", "sort": "ascending"}]}"#,
-        "||; author -Date(Issued) Standard(Title); None None None None; 5; false false ByCite false",
-    ),
-    (
-        r#"{"collapse": "citation-number"}"#,
-        "||;; Some(CitationNumber) None None None; 5; false false ByCite false",
-    ),
-    (
-        r#"{"collapse": "year", "cite-group-delimiter": ", "}"#,
-        r#"||;; Some(Year) Some(", ") None None; 5; false false ByCite false"#,
-    ),
-    (
-        r#"{"collapse": "year-suffix", "year-suffix-delimiter": ","}"#,
-        r#"||;; Some(YearSuffix) None Some(",") None; 5; false false ByCite false"#,
-    ),
-    (
-        r#"{"collapse": "year-suffix-ranged", "after-collapse-delimiter": "; "}"#,
-        r#"||;; Some(YearSuffixRanged) None None Some("; "); 5; false false ByCite false"#,
-    ),
-    (
-        r#"{"near-note-distance": 12}"#,
-        "||;; None None None None; 12; false false ByCite false",
-    ),
-    (
-        r#"{"disambiguate-add-names": true, "disambiguate-add-givenname": false}"#,
-        "||;; None None None None; 5; true false ByCite false",
-    ),
-    (
-        r#"{"disambiguate-add-givenname": true, "givenname-disambiguation-rule": "primary-name-with-initials"}"#,
-        "||;; None None None None; 5; false true PrimaryNameWithInitials false",
-    ),
-    (
-        r#"{"disambiguate-add-year-suffix": true, "colapse": null}"#,
-        "||;; None None None None; 5; false false ByCite true",
-    ),
-];
+/// Options of citations, and those that are read otherwise than where none are set.
+const CITATIONS: &str = r#"
+{} =>
+{"layout": {"prefix": "(", "suffix": ")", "delimiter": "; "}}
+  => prefix="(" suffix=")" delimiter="; "
+{"layout": {"suffix": "."}, "sort": null} => suffix="."
+{"sort": [{"macro": "author"}, {"variable": "issued", "sort": "descending"}, {"variable": "title",
+  "sort": "ascending"}]}
+  => key=author key=-Date(Issued) key=Standard(Title)
+{"collapse": "citation-number"} => collapse=CitationNumber
+{"collapse": "year", "cite-group-delimiter": ", "} => collapse=Year group=", "
+{"collapse": "year-suffix", "year-suffix-delimiter": ","} => collapse=YearSuffix suffixes=","
+{"collapse": "year-suffix-ranged", "after-collapse-delimiter": "; "}
+  => collapse=YearSuffixRanged after="; "
+{"near-note-distance": 12} => distance=12
+{"disambiguate-add-names": true, "disambiguate-add-givenname": false} => names
+{"disambiguate-add-givenname": true, "givenname-disambiguation-rule": "primary-name-with-initials"}
+  => given-names rule=PrimaryNameWithInitials
+{"disambiguate-add-year-suffix": true, "colapse": null} => year-suffix
+# rules of given names
+{"givenname-disambiguation-rule": "all-names"} => rule=AllNames
+{"givenname-disambiguation-rule": "all-names-with-initials"} => rule=AllNamesWithInitials
+{"givenname-disambiguation-rule": "primary-name"} => rule=PrimaryName
+{"givenname-disambiguation-rule": "primary-name-with-initials"} => rule=PrimaryNameWithInitials
+{"givenname-disambiguation-rule": "by-cite"} =>
+# refused
+[] => wrong-type: an object goes here
+{"colapse": "year"}
+  => unknown-member: no member here has this name: "colapse" (the nearest is "collapse")
+# affixes and delimiter belong to the layout
+{"delimiter": "; "} => unknown-member: no member here has this name: "delimiter"
+{"layout": "; "} => /layout wrong-type: an object goes here
+{"layout": {"delimeter": "; "}}
+  => /layout unknown-member: no member here has this name: "delimeter" (the nearest is "delimiter")
+{"layout": {"delimiter": 1}} => /layout/delimiter wrong-type: a text goes here
+{"collapse": "years"}
+  => /collapse unknown-name: no value here has this name: "years" (the nearest is "year")
+{"collapse": true} => /collapse wrong-type: a text goes here
+{"cite-group-delimiter": [","]} => /cite-group-delimiter wrong-type: a text goes here
+{"near-note-distance": "5"} => /near-note-distance wrong-type: a number goes here
+{"near-note-distance": 5.0}
+  => /near-note-distance out-of-range: a whole number from 0 to 4294967295 goes here
+{"disambiguate-add-names": "true"} => /disambiguate-add-names wrong-type: true or false goes here
+{"givenname-disambiguation-rule": "all"}
+  => /givenname-disambiguation-rule unknown-name: no value here has this name: "all"
+{"sort": {"macro": "author"}} => /sort wrong-type: a list goes here
+{"sort": [{"macro": "author"}, {}]} => /sort/1 missing-member: a member is missing: "variable"
+{"sort": [{"macro": "author", "variable": "title"}]}
+  => /sort/0 wrong-type: a key has one of variable and macro
+{"sort": [{"variable": "titel"}]}
+  => /sort/0/variable unknown-name: no variable has this name: "titel" (the nearest is "title")
+{"sort": [{"variable": "title", "sort": "down"}]}
+  => /sort/0/sort unknown-name: no value here has this name: "down"
+"#;
 
 #[test]
 fn options_of_citations(rt: HostRuntime) {
-    for (text, wanted) in &CITATIONS {
-        let came = citation_options(&rt, rt.alloc(), text);
-        assert_eq!(&rt; came.as_str(), *wanted, "of {text}");
-    }
+    let alloc = rt.alloc();
+    assert_cases(
+        &rt,
+        alloc,
+        CITATIONS,
+        &|text| { citation_options(&rt, alloc, text) },
+    );
 }
 
-/// The rules of given names.
-static RULES: [(&str, &str); 5] = [
-    ("all-names", "AllNames"),
-    ("all-names-with-initials", "AllNamesWithInitials"),
-    ("primary-name", "PrimaryName"),
-    ("primary-name-with-initials", "PrimaryNameWithInitials"),
-    ("by-cite", "ByCite"),
-];
-
-#[test]
-fn rules_of_given_names(rt: HostRuntime) {
-    for &(rule, name) in &RULES {
-        let text = format!(in rt.alloc(); "{{\"givenname-disambiguation-rule\": \"{rule}\"}}");
-        let text = text.expect(&rt, "memory");
-        let came = citation_options(&rt, rt.alloc(), text.as_str());
-        let wanted = format!(in rt.alloc();
-            "||;; None None None None; 5; false false {name} false"
-        );
-        assert_eq!(&rt; came.as_str(), wanted.expect(&rt, "memory").as_str());
-        drop(text);
-    }
-}
-
-/// Options of bibliographies, and what is read.
-static BIBLIOGRAPHIES: [(&str, &str); 12] = [
-    ("{}", "|;; false None 1 1"),
-    (
-        r#"{"layout": {"prefix": "- ", "suffix": "."}}"#,
-        "- |.;; false None 1 1",
-    ),
-    (
-        r#"{"sort": [{"variable": "citation-number"}, {"macro": "issued", "sort": "descending"}]}"#,
-        "|; Number(CitationNumber) -issued; false None 1 1",
-    ),
-    (r#"{"hanging-indent": true}"#, "|;; true None 1 1"),
-    (
-        r#"{"second-field-align": "flush"}"#,
-        "|;; false Some(Flush) 1 1",
-    ),
-    (
-        r#"{"second-field-align": "margin"}"#,
-        "|;; false Some(Margin) 1 1",
-    ),
-    (
-        r#"{"line-spacing": 2, "entry-spacing": 0}"#,
-        "|;; false None 2 0",
-    ),
-    (
-        r#"{"subsequent-author-substitute": "———"}"#,
-        "|;; false None 1 1; ——— CompleteAll",
-    ),
-    (
-        r#"{"subsequent-author-substitute": "", "subsequent-author-substitute-rule": "complete-each"}"#,
-        "|;; false None 1 1;  CompleteEach",
-    ),
-    (
-        r#"{"subsequent-author-substitute": "-", "subsequent-author-substitute-rule": "partial-each"}"#,
-        "|;; false None 1 1; - PartialEach",
-    ),
-    (
-        r#"{"subsequent-author-substitute": "-", "subsequent-author-substitute-rule": "partial-first"}"#,
-        "|;; false None 1 1; - PartialFirst",
-    ),
-    // without a text the rule changes nothing
-    (
-        r#"{"subsequent-author-substitute-rule": "partial-first"}"#,
-        "|;; false None 1 1",
-    ),
-];
+/// Options of bibliographies, likewise.
+const BIBLIOGRAPHIES: &str = r#"
+{} =>
+{"layout": {"prefix": "- ", "suffix": "."}} => prefix="- " suffix="."
+{"sort": [{"variable": "citation-number"}, {"macro": "issued", "sort": "descending"}]}
+  => key=Number(CitationNumber) key=-issued
+{"hanging-indent": true} => hanging
+{"second-field-align": "flush"} => align=Flush
+{"second-field-align": "margin"} => align=Margin
+{"line-spacing": 2, "entry-spacing": 0} => line=2 entry=0
+{"subsequent-author-substitute": "———"} => substitute="———" CompleteAll
+{"subsequent-author-substitute": "", "subsequent-author-substitute-rule": "complete-each"}
+  => substitute="" CompleteEach
+{"subsequent-author-substitute": "-", "subsequent-author-substitute-rule": "partial-each"}
+  => substitute="-" PartialEach
+{"subsequent-author-substitute": "-", "subsequent-author-substitute-rule": "partial-first"}
+  => substitute="-" PartialFirst
+# without a text the rule changes nothing
+{"subsequent-author-substitute-rule": "partial-first"} =>
+# refused
+{"layout": {"delimiter": "; "}} => /layout unknown-member: no member here has this name: "delimiter"
+{"collapse": "year"} => unknown-member: no member here has this name: "collapse"
+{"hanging-indent": 1} => /hanging-indent wrong-type: true or false goes here
+{"second-field-align": "true"}
+  => /second-field-align unknown-name: no value here has this name: "true"
+{"line-spacing": 0} => /line-spacing out-of-range: a distance of lines is from 1 to 4294967295
+{"entry-spacing": -1} => /entry-spacing out-of-range: a whole number from 0 to 4294967295 goes here
+{"subsequent-author-substitute": false}
+  => /subsequent-author-substitute wrong-type: a text goes here
+{"subsequent-author-substitute-rule": "complete-al"}
+  => /subsequent-author-substitute-rule unknown-name: no value here has this name: "complete-al"
+  (the nearest is "complete-all")
+"#;
 
 #[test]
 fn options_of_bibliographies(rt: HostRuntime) {
-    for (text, wanted) in &BIBLIOGRAPHIES {
-        let came = bibliography_options(&rt, rt.alloc(), text);
-        assert_eq!(&rt; came.as_str(), *wanted, "of {text}");
-    }
+    let alloc = rt.alloc();
+    assert_cases(
+        &rt,
+        alloc,
+        BIBLIOGRAPHIES,
+        &|text| { bibliography_options(&rt, alloc, text) },
+    );
 }
 
-/// Styles with their options, and the options that are read.
-static STYLES: [(&str, &str); 6] = [
-    (
-        r#"{"style": {}, "class": "in-text"}"#,
-        "||;; None None None None; 5; false false ByCite false / |;; false None 1 1",
-    ),
-    (
-        r#"{"style": {}, "class": "note"}"#,
-        "||;; None None None None; 5; false false ByCite false; capital / |;; false None 1 1",
-    ),
-    (
-        r#"{"style": {}, "class": "note", "citation": {"layout": {"suffix": "."}}}"#,
-        "|.|;; None None None None; 5; false false ByCite false; capital / |;; false None 1 1",
-    ),
-    (
-        r#"{"style": {}}"#,
-        "||;; None None None None; 5; false false ByCite false / |;; false None 1 1",
-    ),
-    (
-        r#"{"style": {}, "citation": {"layout": {"delimiter": "; "}}, "bibliography": {"hanging-indent": true}}"#,
-        "||; ;; None None None None; 5; false false ByCite false / |;; true None 1 1",
-    ),
-    (
-        r#"{"style": {"macros": [{"name": "author"}]}, "citation": null, "bibliography": {"sort": [{"macro": "author"}]}}"#,
-        "||;; None None None None; 5; false false ByCite false / |; author; false None 1 1",
-    ),
-];
+/// Styles with their options: those of citations before a slash, and those of bibliographies after
+/// it.
+const STYLES: &str = r#"
+{"style": {}, "class": "in-text"} => /
+{"style": {}, "class": "note"} => capital /
+{"style": {}, "class": "note", "citation": {"layout": {"suffix": "."}}} => suffix="." capital /
+{"style": {}} => /
+{"style": {}, "citation": {"layout": {"delimiter": "; "}}, "bibliography": {"hanging-indent": true}}
+  => delimiter="; " / hanging
+{"style": {"macros": [{"name": "author"}]}, "citation": null, "bibliography": {"sort": [{"macro":
+  "author"}]}}
+  => / key=author
+# refused
+{"style": {}, "class": "notes"}
+  => /class unknown-name: no value here has this name: "notes" (the nearest is "note")
+{} => missing-member: a member is missing: "style"
+{"style": {}, "citations": {}}
+  => unknown-member: no member here has this name: "citations" (the nearest is "citation")
+{"style": {"citation": {"collapse": "year"}}}
+  => /style/citation unknown-member: no member here has this name: "collapse"
+{"style": {}, "bibliography": {"sort": [{"variable": "bok"}]}}
+  => /bibliography/sort/0/variable unknown-name: no variable has this name: "bok"
+{"style": {"macros": [{"name": "author"}]}, "citation": {"sort": [{"macro": "author"}, {"macro":
+  "autor"}]}}
+  => /citation/sort/1/macro unknown-name: no value here has this name: "autor" (the nearest is
+  "author")
+{"style": {}, "bibliography": {"sort": [{"macro": "author"}]}}
+  => /bibliography/sort/0/macro unknown-name: no value here has this name: "author"
+"#;
 
 #[test]
 fn styles_with_options(rt: HostRuntime) {
-    for (text, wanted) in &STYLES {
-        let came = options_of_style(&rt, rt.alloc(), text);
-        assert_eq!(&rt; came.as_str(), *wanted, "of {text}");
-    }
+    let alloc = rt.alloc();
+    assert_cases(
+        &rt,
+        alloc,
+        STYLES,
+        &|text| options_of_style(&rt, alloc, text),
+    );
 }
-
-const REQUEST: &str = r#"{
-    "op": "style",
-    "style": {},
-    "citation": {"layout": {"delimiter": "; "}}}"#;
 
 /// A request with a style has further members.
 #[test]
 fn style_of_a_request(rt: HostRuntime) {
     let alloc = rt.alloc();
-    let value = json(&rt, alloc, REQUEST);
+    let request = r#"{"op": "style", "style": {}, "citation": {"layout": {"delimiter": "; "}}}"#;
+    let value = json(&rt, alloc, request);
     let limits = Limits::of_strangers();
     let form = Form::of(
         Reader { alloc, limits },
@@ -199,7 +175,5 @@ fn style_of_a_request(rt: HostRuntime) {
     let form = form.expect(&rt, "a request");
     let style = list_style_in(form, OptionLimits::of_strangers()).expect(&rt, "a style");
     let came = options_text(&rt, alloc, &style);
-    let wanted = "||; ;; None None None None; 5; false false ByCite false / |;; false None 1 1";
-    assert_eq!(&rt; came.as_str(), wanted);
-    drop(style);
+    assert_eq!(&rt; came.as_str(), r#" delimiter="; " /"#);
 }

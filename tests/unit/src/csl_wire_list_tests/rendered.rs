@@ -1,10 +1,10 @@
 //! The style with its options and the document of docs/WIRE.md, rendered.
 
-use crate::csl_wire_list_tests::reading::json;
 use crate::shared::put;
+use crate::wire::json;
 use csl::{BufWriteFormat, ElemChildren};
 use csl_list::{BibliographyDriver, ListStyle, ListedWorks, RenderedList};
-use csl_wire_cite::{WireEntry, WorkLimits, entry_of};
+use csl_wire_cite::{WorkLimits, entry_of};
 use csl_wire_list::{DocumentLimits, OptionLimits, document_of, list_style_of};
 use std::alloc::Global;
 use std::process::Abort;
@@ -57,90 +57,64 @@ const DOCUMENT: &str = r#"
 "#;
 
 /// The works by their names.
-static WORKS: [(&str, &str); 4] = [
-    (
-        "doe",
-        r#"{"variables": {"title": "Lakes", "author": [{"family": "Doe"}], "issued": {"year": 1999}}}"#,
-    ),
-    (
-        "fern",
-        r#"{"variables": {"title": "Ferns", "author": [{"family": "Kwan"}], "issued": {"year": 2016}}}"#,
-    ),
-    (
-        "moss",
-        r#"{"variables": {"title": "Moss", "author": [{"family": "Kwan"}], "issued": {"year": 2014}}}"#,
-    ),
-    (
-        "roe",
-        r#"{"variables": {"title": "Hills", "author": [{"family": "Roe"}], "issued": {"year": 2010}}}"#,
-    ),
-];
+const WORKS: &str = r#"{
+  "doe": {"variables":
+    {"title": "Lakes", "author": [{"family": "Doe"}], "issued": {"year": 1999}}},
+  "fern": {"variables":
+    {"title": "Ferns", "author": [{"family": "Kwan"}], "issued": {"year": 2016}}},
+  "moss": {"variables":
+    {"title": "Moss", "author": [{"family": "Kwan"}], "issued": {"year": 2014}}},
+  "roe": {"variables":
+    {"title": "Hills", "author": [{"family": "Roe"}], "issued": {"year": 2010}}}
+}"#;
 
-/// The work of a name.
-fn work(rt: &impl Abort, alloc: Global, name: &str) -> WireEntry {
-    let mut text = "";
-    for &(known, work) in &WORKS {
-        if known == name {
-            text = work;
-        }
-    }
-    let value = json(rt, alloc, text);
-    entry_of(alloc, &value, WorkLimits::of_strangers()).expect(rt, "a work")
-}
-
-/// The list of a document.
-fn list(rt: &impl Abort, alloc: Global, style: &ListStyle, text: &str) -> RenderedList {
-    let value = json(rt, alloc, text);
+/// The list of the document.
+fn list(rt: &impl Abort, alloc: Global, style: &ListStyle) -> RenderedList {
+    let (value, all) = (json(rt, alloc, DOCUMENT), json(rt, alloc, WORKS));
     let document = document_of(alloc, &value, DocumentLimits::of_strangers());
     let document = document.expect(rt, "a document");
     let mut works = Vec::new(alloc);
     for named in &document.works {
-        put(rt, &mut works, work(rt, alloc, named.name));
+        let work = all.get(named.name).expect(rt, "a work");
+        let entry = entry_of(alloc, work, WorkLimits::of_strangers());
+        put(rt, &mut works, entry.expect(rt, "a work"));
     }
     let mut driver = BibliographyDriver::new(alloc);
     for citation in document.citations {
         driver.citation(citation).expect(rt, "memory");
     }
     let list = driver.finish(alloc, style, &works, ListedWorks::All);
-    drop(driver);
-    drop(works);
     list.expect(rt, "a list")
 }
 
-fn plain(rt: &impl Abort, alloc: Global, content: &ElemChildren) -> String {
-    content
-        .to_text(alloc, BufWriteFormat::Plain)
-        .expect(rt, "memory")
+fn assert_plain(rt: &impl Abort, alloc: Global, content: &ElemChildren, wanted: &str) {
+    let text = content.to_text(alloc, BufWriteFormat::Plain);
+    assert_eq!(rt; text.expect(rt, "memory").as_str(), wanted);
 }
 
 #[test]
 fn document_of_the_page(rt: HostRuntime) {
     let alloc = rt.alloc();
-    let value = json(&rt, alloc, STYLE);
-    let style = list_style_of(alloc, &value, OptionLimits::of_strangers());
-    let style = style.expect(&rt, "a style");
-    let list = list(&rt, alloc, &style, DOCUMENT);
-    for (index, wanted) in ["(see Kwan 2014; Roe 2010)", "Kwan (2014: 7)", ""]
-        .iter()
-        .enumerate()
-    {
-        let came = plain(&rt, alloc, &list.citations[index].content);
-        assert_eq!(&rt; came.as_str(), *wanted);
+    let style = list_style_of(
+        alloc,
+        &json(&rt, alloc, STYLE),
+        OptionLimits::of_strangers(),
+    );
+    let list = list(&rt, alloc, &style.expect(&rt, "a style"));
+    let wanted = ["(see Kwan 2014; Roe 2010)", "Kwan (2014: 7)", ""];
+    for (citation, wanted) in list.citations.iter().zip(wanted) {
+        assert_plain(&rt, alloc, &citation.content, wanted);
     }
-    let bibliography = list.bibliography.expect(&rt, "a bibliography");
+    let bibliography = list.bibliography.as_ref().expect(&rt, "a bibliography");
     assert!(&rt; bibliography.hanging_indent);
-    for (index, wanted) in [
+    let wanted = [
         "Doe. 1999. Lakes.",
         "Kwan. 2016. Ferns.",
         "Kwan. 2014. Moss.",
         "Roe. 2010. Hills.",
-    ]
-    .iter()
-    .enumerate()
-    {
-        let came = plain(&rt, alloc, &bibliography.items[index].content);
-        assert_eq!(&rt; came.as_str(), *wanted);
+    ];
+    assert_eq!(&rt; bibliography.items.len(), wanted.len());
+    for (item, wanted) in bibliography.items.iter().zip(wanted) {
+        assert_plain(&rt, alloc, &item.content, wanted);
     }
-    drop(bibliography);
-    drop(style);
 }

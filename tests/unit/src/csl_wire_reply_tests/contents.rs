@@ -1,84 +1,90 @@
 //! Contents in the formats of replies.
 
-use crate::assertions::assert_text;
 use crate::csl_wire_reply_tests::reading::read_tree;
+use crate::shared::assert_cases;
+use crate::wire::json;
 use csl_elements::Display;
 use csl_tree::{Elem, ElemChild, ElemChildren};
 use csl_wire::{Code, WireError};
-use csl_wire_reply::{Formats, content_value};
-use serde_json::Value;
+use csl_wire_reply::{Formats, content_value, tree_value};
 use std::alloc::Global;
 use std::mem;
 use std::process::Abort;
-use std::test::Fail;
 
-/// The reply of a content that is given as a tree, as a text.
-fn reply(rt: &impl Abort, alloc: Global, tree: &str, formats: Formats) -> Result<String, Fail> {
-    let value = Value::from_str(alloc, tree).expect(rt, "JSON");
-    let content = read_tree(rt, alloc, &value);
-    let value = content_value(alloc, content, formats).expect(rt, "a value");
-    Ok(value.to_string(alloc)?)
-}
-
-/// The formats of these names.
-fn formats(names: &str, has_all_links: bool) -> Formats {
+/// The formats of these names, which may say that all links stay.
+fn formats(names: &str) -> Formats {
     Formats {
         plain: names.contains("plain"),
         html: names.contains("html"),
         tree: names.contains("tree"),
-        has_all_links,
+        has_all_links: names.contains("links"),
     }
 }
 
-/// Two texts, one of them in italics.
-const TEXTS: &str = r#"[{"text":"a"},{"text":"<b>","font-style":"italic"}]"#;
+/// Formats and a content as a tree, and the reply.
+const REPLIES: &str = r#"
+# two texts, one of them in italics
+none [{"text":"a"},{"text":"<b>","font-style":"italic"}] => {}
+plain [{"text":"a"},{"text":"<b>","font-style":"italic"}] => {"plain":"a<b>"}
+plain,html [{"text":"a"},{"text":"<b>","font-style":"italic"}]
+  => {"html":"a<span style=\"font-style: italic;\">&lt;b&gt;</span>","plain":"a<b>"}
+tree [{"text":"a"},{"text":"<b>","font-style":"italic"}]
+  => {"tree":[{"text":"a"},{"font-style":"italic","text":"<b>"}]}
+# a block around a text
+plain [{"children":[{"text":"a"}],"display":"block","meta":{"kind":"date"}}] => {"plain":"\na\n"}
+tree [{"children":[{"text":"a"}],"display":"block","meta":{"kind":"date"}}]
+  => {"tree":[{"children":[{"text":"a"}],"display":"block","meta":{"kind":"date"}}]}
+# an element without display and meta, and a text
+tree [{"children":[{"text":"a"}]},{"text":"b"}] => {"tree":[{"text":"ab"}]}
+# two links
+html,tree [{"text":"a","url":"javascript:1"},{"text":"b","url":"https://x.y/?z"}]
+  => {"html":"a<a href=\"https://x.y/?z\">b</a>","tree":[{"text":"a"},{"text":"b","url":"https://x.y/?z"}]}
+html,links [{"text":"a","url":"javascript:1"},{"text":"b","url":"https://x.y/?z"}]
+  => {"html":"<a href=\"javascript:1\">a</a><a href=\"https://x.y/?z\">b</a>"}
+"#;
 
-/// A block around a text.
-const BLOCK: &str = r#"[{"children":[{"text":"a"}],"display":"block","meta":{"kind":"date"}}]"#;
+/// Trees with all parts that a tree has, each of which is written so.
+const TREES: &str = r#"
+[{"font-style":"italic","font-variant":"small-caps","font-weight":"bold","text":"a"}]
+[{"font-weight":"light","text":"a","text-decoration":"underline","vertical-align":"baseline"}]
+[{"text":"a","vertical-align":"sup"},{"text":"\"q\\ \u0001\n\t—é","vertical-align":"sub"}]
+[{"markup":"<i>x</i>"},{"cite":3},{"cite":0,"font-style":"italic"},{"text":"a","url":"https://x.y/"}]
+[{"children":[{"text":"a"}],"display":"left-margin","meta":{"kind":"text"}}]
+[{"children":[{"text":"a"}],"display":"right-inline","meta":{"kind":"number"}}]
+[{"children":[{"text":"a"}],"display":"indent","meta":{"kind":"label"}}]
+[{"children":[{"text":"1"}],"meta":{"kind":"citation-number"}}]
+[{"children":[{"text":"Roe10"}],"meta":{"kind":"citation-label"}}]
+[{"children":[{"text":"a"}],"meta":{"index":7,"kind":"entry"}}]
+[{"children":[{"text":"Kim"}],"meta":{"index":1,"kind":"name","variable":"editor-translator"}}]
+[{"children":[{"text":"Roe"}],"meta":{"kind":"names","names":[{"persons":[{"comma-suffix":true,"family":"Roe","given":"Max","prefix":"van","suffix":"Jr."},{"alias":"Bo","family":"Kim","suffix":"II"}],"variable":"author"},{"persons":[],"variable":"translator"}]}}]
+"#;
 
-/// An element without display and meta, and a text.
-const PLAIN: &str = r#"[{"children":[{"text":"a"}]},{"text":"b"}]"#;
+#[test]
+fn trees_are_written_whole(rt: HostRuntime) {
+    let alloc = rt.alloc();
+    for tree in TREES.trim().lines() {
+        let content = read_tree(&rt, alloc, &json(&rt, alloc, tree));
+        let value = tree_value(alloc, &content, 56).expect(&rt, "a value");
+        let text = value.to_string(alloc).ok().expect(&rt, "memory");
+        assert_eq!(&rt; text.as_str(), tree);
+    }
+}
 
-/// Two links.
-const LINKS: &str = r#"[{"text":"a","url":"javascript:1"},{"text":"b","url":"https://x.y/?z"}]"#;
-
-/// A content, the names of formats, whether all links stay, and the reply.
-static REPLIES: [(&str, &str, bool, &str); 9] = [
-    (TEXTS, "", false, "{}"),
-    (TEXTS, "plain", false, r#"{"plain":"a<b>"}"#),
-    (
-        TEXTS,
-        "plain html",
-        false,
-        r#"{"html":"a<span style=\"font-style: italic;\">&lt;b&gt;</span>","plain":"a<b>"}"#,
-    ),
-    (
-        TEXTS,
-        "tree",
-        false,
-        r#"{"tree":[{"text":"a"},{"font-style":"italic","text":"<b>"}]}"#,
-    ),
-    (BLOCK, "plain", false, r#"{"plain":"\na\n"}"#),
-    (
-        BLOCK,
-        "tree",
-        false,
-        r#"{"tree":[{"children":[{"text":"a"}],"display":"block","meta":{"kind":"date"}}]}"#,
-    ),
-    (PLAIN, "tree", false, r#"{"tree":[{"text":"ab"}]}"#),
-    (
-        LINKS,
-        "html tree",
-        false,
-        r#"{"html":"a<a href=\"https://x.y/?z\">b</a>","tree":[{"text":"a"},{"text":"b","url":"https://x.y/?z"}]}"#,
-    ),
-    (
-        LINKS,
-        "html",
-        true,
-        r#"{"html":"<a href=\"javascript:1\">a</a><a href=\"https://x.y/?z\">b</a>"}"#,
-    ),
-];
+#[test]
+fn contents_in_their_formats(rt: HostRuntime) {
+    let alloc = rt.alloc();
+    assert_cases(
+        &rt,
+        alloc,
+        REPLIES,
+        &|case| {
+            let (names, tree) = case.split_once(' ').expect(&rt, "formats");
+            let content = read_tree(&rt, alloc, &json(&rt, alloc, tree));
+            let value = content_value(alloc, content, formats(names)).expect(&rt, "a value");
+            value.to_string(alloc).ok().expect(&rt, "memory")
+        },
+    );
+}
 
 /// A block in so many others.
 fn blocks(rt: &impl Abort, alloc: Global, levels: usize) -> ElemChildren {
@@ -95,26 +101,15 @@ fn blocks(rt: &impl Abort, alloc: Global, levels: usize) -> ElemChildren {
 }
 
 #[test]
-fn a_deep_tree_is_refused(rt: HostRuntime) -> Result<(), Fail> {
+fn a_deep_tree_is_refused(rt: HostRuntime) {
     let alloc = rt.alloc();
-    let value = content_value(alloc, blocks(&rt, alloc, 56), formats("tree", false));
+    let value = content_value(alloc, blocks(&rt, alloc, 56), formats("tree"));
     assert!(rt; value.is_ok());
-    let refused = content_value(alloc, blocks(&rt, alloc, 57), formats("tree", false));
+    let refused = content_value(alloc, blocks(&rt, alloc, 57), formats("tree"));
     match refused {
         Err(WireError::Refused(refusal)) => assert!(rt; refusal.code() == Code::TooDeep),
         _ => assert!(rt; false),
     }
-    let plain = content_value(alloc, blocks(&rt, alloc, 57), formats("plain", false));
+    let plain = content_value(alloc, blocks(&rt, alloc, 57), formats("plain"));
     assert!(rt; plain.is_ok());
-    Ok(())
-}
-
-#[test]
-fn contents_in_their_formats(rt: HostRuntime) -> Result<(), Fail> {
-    let alloc = rt.alloc();
-    for (tree, names, has_all_links, wanted) in &REPLIES {
-        let text = reply(&rt, alloc, tree, formats(names, *has_all_links))?;
-        assert_text(&rt, Some(text.as_str()), Some(wanted));
-    }
-    Ok(())
 }

@@ -1,6 +1,6 @@
 //! A reader of trees: the content that a tree of JSON stands for.
 
-use crate::shared::put;
+use crate::shared::{put, string};
 use csl_elements::{
     Display, FontStyle, FontVariant, FontWeight, NameVariable, TextDecoration, VerticalAlign,
 };
@@ -19,8 +19,7 @@ fn text_if<'v>(rt: &impl Abort, value: &'v Value, name: &str) -> Option<&'v str>
 
 /// A copy of the text of a member that has to be there.
 fn text(rt: &impl Abort, alloc: Global, value: &Value, name: &str) -> String {
-    let text = text_if(rt, value, name).expect(rt, "a member");
-    String::from_str(alloc, text).expect(rt, "memory")
+    string(rt, alloc, text_if(rt, value, name).expect(rt, "a member"))
 }
 
 /// The number of a member that has to be there.
@@ -74,7 +73,7 @@ fn variable(rt: &impl Abort, value: &Value) -> NameVariable {
 
 /// A copy of the text of a member, if there is one.
 fn copied_if(rt: &impl Abort, alloc: Global, value: &Value, name: &str) -> Option<String> {
-    text_if(rt, value, name).map(|text| String::from_str(alloc, text).expect(rt, "memory"))
+    text_if(rt, value, name).map(|text| string(rt, alloc, text))
 }
 
 /// A person.

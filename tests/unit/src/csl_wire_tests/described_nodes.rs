@@ -1,6 +1,6 @@
 //! Nodes as texts: the name of the element and its attributes, with the nodes inside in brackets.
 
-use crate::csl_wire_tests::described::Description;
+use crate::described::Description;
 use csl_elements::{
     Affixes, Choose, ChooseBranch, Date, DatePart, Display, EtAl, Formatting, Group,
     InheritableNameOptions, Label, LayoutRenderingElement, Name, NamePart, Names, NamesChild,

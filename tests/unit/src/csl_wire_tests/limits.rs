@@ -1,43 +1,48 @@
 //! How long a text, how large a number and how deep nodes may be.
 
 use crate::csl_wire_tests::reading::{json, nodes_as_text, read_nodes, told};
-use crate::shared::{alone, put};
+use crate::shared::{alone, assert_cases, repeated};
+use crate::wire::{Bound, assert_bounds};
 use csl_elements::LayoutRenderingElement;
 use csl_wire::{Limits, nodes_of, value_of_text};
 use serde_json::{Map, Value};
 use std::alloc::Global;
 use std::process::Abort;
 
-/// The texts in a row, as one.
-fn repeated(rt: &impl Abort, alloc: Global, text: &str, count: usize) -> String {
-    let mut all = String::new(alloc);
-    for _ in 0..count {
-        all.push_str(text).expect(rt, "memory");
-    }
-    all
-}
-
-/// So many letters as nodes.
-fn long_text(rt: &impl Abort, alloc: Global, letter: &str, count: usize) -> String {
-    let text = repeated(rt, alloc, letter, count);
-    format!(in alloc; "[{{\"text\": {{\"value\": \"{text}\"}}}}]").expect(rt, "memory")
-}
+/// Texts of strangers: letters of one byte, and of two.
+static TEXTS: [Bound; 2] = [
+    (
+        r#"[{"text": {"value": "@"}}]"#,
+        "a",
+        200,
+        "/0/text/value too-long: the text is too long",
+    ),
+    (
+        r#"[{"text": {"value": "@"}}]"#,
+        "é",
+        100,
+        "/0/text/value too-long: the text is too long",
+    ),
+];
 
 #[test]
 fn texts_of_strangers_have_200_bytes(rt: HostRuntime) {
-    let longest = long_text(&rt, rt.alloc(), "a", 200);
-    assert!(&rt; read_nodes(&rt, rt.alloc(), longest.as_str()).is_ok());
-    let longer = long_text(&rt, rt.alloc(), "a", 201);
-    let came = nodes_as_text(&rt, rt.alloc(), longer.as_str());
-    let wanted = "/0/text/value too-long: the text is too long";
-    assert_eq!(&rt; came.as_str(), wanted);
-    // 101 letters of two bytes
-    let accented = long_text(&rt, rt.alloc(), "é", 101);
-    let came = nodes_as_text(&rt, rt.alloc(), accented.as_str());
-    assert_eq!(&rt; came.as_str(), wanted);
-    let value = json(&rt, rt.alloc(), longer.as_str());
-    assert!(&rt; nodes_of(rt.alloc(), &value, Limits::none()).is_ok());
-    assert!(&rt; nodes_of(rt.alloc(), &value, Limits { text: 201 }).is_ok());
+    let alloc = rt.alloc();
+    assert_bounds(
+        &rt,
+        alloc,
+        &TEXTS,
+        &|text| {
+            let value = json(&rt, alloc, text);
+            for limits in [Limits::none(), Limits { text: 202 }] {
+                assert!(&rt; nodes_of(alloc, &value, limits).is_ok());
+            }
+            match nodes_of(alloc, &value, Limits::of_strangers()) {
+                Ok(_) => String::new(alloc),
+                Err(error) => told(&rt, alloc, error),
+            }
+        },
+    );
 }
 
 /// A word of a refusal has at most 200 bytes too.
@@ -51,39 +56,30 @@ fn long_words_are_not_named(rt: HostRuntime) {
 }
 
 /// Numbers, and the refusals of those that are none from 0 to 4294967295.
-static NUMBERS: [(&str, &str); 7] = [
-    ("0", "[(names [Author] min=0 [])]"),
-    ("4294967295", "[(names [Author] min=4294967295 [])]"),
-    (
-        "4294967296",
-        "/0/names/et-al-min out-of-range: a whole number from 0 to 4294967295 goes here",
-    ),
-    (
-        "-1",
-        "/0/names/et-al-min out-of-range: a whole number from 0 to 4294967295 goes here",
-    ),
-    (
-        "3.0",
-        "/0/names/et-al-min out-of-range: a whole number from 0 to 4294967295 goes here",
-    ),
-    (
-        "3e0",
-        "/0/names/et-al-min out-of-range: a whole number from 0 to 4294967295 goes here",
-    ),
-    (
-        "18446744073709551616",
-        "/0/names/et-al-min out-of-range: a whole number from 0 to 4294967295 goes here",
-    ),
-];
+const NUMBERS: &str = "
+0 => [(names [Author] min=0 [])]
+4294967295 => [(names [Author] min=4294967295 [])]
+4294967296 => /0/names/et-al-min out-of-range: a whole number from 0 to 4294967295 goes here
+-1 => /0/names/et-al-min out-of-range: a whole number from 0 to 4294967295 goes here
+3.0 => /0/names/et-al-min out-of-range: a whole number from 0 to 4294967295 goes here
+3e0 => /0/names/et-al-min out-of-range: a whole number from 0 to 4294967295 goes here
+18446744073709551616
+  => /0/names/et-al-min out-of-range: a whole number from 0 to 4294967295 goes here
+";
 
 #[test]
 fn whole_numbers_below_two_to_the_32(rt: HostRuntime) {
-    for (number, wanted) in &NUMBERS {
-        let before = r#"[{"names": {"variable": ["author"], "et-al-min": "#;
-        let text = format!(in rt.alloc(); "{before}{number}}}}}]").expect(&rt, "memory");
-        let came = nodes_as_text(&rt, rt.alloc(), text.as_str());
-        assert_eq!(&rt; came.as_str(), *wanted, "of {number}");
-    }
+    let alloc = rt.alloc();
+    assert_cases(
+        &rt,
+        alloc,
+        NUMBERS,
+        &|number| {
+            let before = r#"[{"names": {"variable": ["author"], "et-al-min": "#;
+            let text = format!(in alloc; "{before}{number}}}}}]").expect(&rt, "memory");
+            nodes_as_text(&rt, alloc, text.as_str())
+        },
+    );
 }
 
 /// A list of groups in one another: so many lists of nodes, three levels of JSON each but the last.
@@ -142,24 +138,4 @@ fn nodes_of_43_lists(rt: HostRuntime) {
     let place = repeated(&rt, rt.alloc(), "/0/group/children", 43);
     let wanted = format!(in rt.alloc(); "{place} too-deep: the nodes are too deep");
     assert_eq!(&rt; came.as_str(), wanted.expect(&rt, "memory").as_str());
-}
-
-/// Many nodes beside each other are read in their order.
-#[test]
-fn many_nodes(rt: HostRuntime) {
-    let node = r#"{"text": {"value": "a"}}, "#;
-    let nodes = repeated(&rt, rt.alloc(), node, 1999);
-    let last = r#"{"group": {}}"#;
-    let text = format!(in rt.alloc(); "[{nodes}{last}]").expect(&rt, "memory");
-    let read = read_nodes(&rt, rt.alloc(), text.as_str()).expect(&rt, "nodes");
-    let mut kinds = Vec::new(rt.alloc());
-    for node in &read {
-        put(
-            &rt,
-            &mut kinds,
-            matches!(node, LayoutRenderingElement::Group(_)),
-        );
-    }
-    assert_eq!(&rt; kinds.len(), 2000);
-    assert_eq!(&rt; kinds.iter().position(|is_group| *is_group), Some(1999));
 }

@@ -1,8 +1,9 @@
 //! Locales that are read: terms, ordinals, dates and options.
 
-use crate::csl_wire_tests::described::Description;
 use crate::csl_wire_tests::described_nodes::date;
 use crate::csl_wire_tests::reading::json;
+use crate::described::Description;
+use crate::shared::assert_cases;
 use csl_elements::Locale;
 use csl_wire::{Limits, locale_of};
 use std::alloc::Global;
@@ -43,57 +44,48 @@ fn locale_as_text(rt: &impl Abort, alloc: Global, text: &str) -> String {
     let read = locale_of(alloc, &value, Limits::of_strangers()).expect(rt, "a locale");
     let mut out = Description::new(rt, alloc);
     locale(&mut out, &read);
-    String::from_str(alloc, out.as_str()).expect(rt, "memory")
+    out.into_text()
 }
 
-static LOCALES: [(&str, &str); 8] = [
-    ("{}", ""),
-    (
-        r#"{"terms": [], "dates": null, "punctuation-in-quote": false}"#,
-        "",
-    ),
-    (
-        r#"{"punctuation-in-quote": true, "limit-day-ordinals-to-day-1": true}"#,
-        " in-quote day-1",
-    ),
-    (
-        r#"{"terms": [{"name": "page", "form": "short", "single": "p.", "multiple": "pp."},
-            {"name": "month-02", "single": "février", "gender": "masculine"},
-            {"name": "edition", "single": "édition", "gender": "feminine"},
-            {"name": "editor", "form": "verb-short", "single": "ed. by"},
-            {"name": "and", "form": "symbol", "single": "&"}, {"name": "locator:page", "single": ""}]}"#,
-        r#" (term Page(Page) Short "p." multiple="pp.") (term Other(Month(1)) Long "février" gender=Masculine) (term Number(Edition) Long "édition" gender=Feminine) (term Name(Editor) VerbShort "ed. by") (term Other(And) Symbol "&") (term Locator(Page) Long "")"#,
-    ),
-    (
-        r#"{"terms": [{"name": "ordinal", "single": "th"}, {"name": "ordinal-02", "single": "nd"},
-            {"name": "ordinal-12", "single": "th", "match": "last-two-digits"},
-            {"name": "ordinal-99", "single": "x", "match": "whole-number"},
-            {"name": "ordinal-00", "single": "y", "match": "last-digit", "gender-form": "feminine"}]}"#,
-        r#" (ordinal Default "th") (ordinal Two(2) "nd") (ordinal Two(12) match=LastTwoDigits "th") (ordinal Two(99) match=WholeNumber "x") (ordinal Two(0) match=LastDigit gender=Feminine "y")"#,
-    ),
-    (
-        r#"{"terms": [{"name": "long-ordinal-01", "single": "first", "gender-form": "masculine"},
-            {"name": "long-ordinal-10", "single": "tenth"}]}"#,
-        r#" (ordinal Long(1) gender=Masculine "first") (ordinal Long(10) "tenth")"#,
-    ),
-    // terms and ordinals keep their own orders
-    (
-        r#"{"terms": [{"name": "ordinal", "single": "."}, {"name": "at", "single": "in"},
-            {"name": "ordinal-01", "single": "er"}, {"name": "by", "single": "von"}]}"#,
-        r#" (term Other(At) Long "in") (term Other(By) Long "von") (ordinal Default ".") (ordinal Two(1) "er")"#,
-    ),
-    (
-        r#"{"dates": [{"form": "numeric", "delimiter": "/", "date-part": [
-            {"name": "month", "form": "numeric-leading-zeros"}, {"name": "year"}]},
-            {"form": "text", "font-style": "italic", "prefix": "(", "suffix": ")"}]}"#,
-        r#" (date form=Numeric delimiter="/" [(part Month form=NumericLeadingZeros)(part Year)]) (date form=Text style=Italic prefix="(" suffix=")" [])"#,
-    ),
-];
+const LOCALES: &str = r#"
+{} =>
+{"terms": [], "dates": null, "punctuation-in-quote": false} =>
+{"punctuation-in-quote": true, "limit-day-ordinals-to-day-1": true} => in-quote day-1
+{"terms": [{"name": "page", "form": "short", "single": "p.", "multiple": "pp."}, {"name":
+  "month-02", "single": "février", "gender": "masculine"}, {"name": "edition", "single": "édition",
+  "gender": "feminine"}, {"name": "editor", "form": "verb-short", "single": "ed. by"}, {"name":
+  "and", "form": "symbol", "single": "&"}, {"name": "locator:page", "single": ""}]}
+  => (term Page(Page) Short "p." multiple="pp.") (term Other(Month(1)) Long "février"
+  gender=Masculine) (term Number(Edition) Long "édition" gender=Feminine) (term Name(Editor)
+  VerbShort "ed. by") (term Other(And) Symbol "&") (term Locator(Page) Long "")
+{"terms": [{"name": "ordinal", "single": "th"}, {"name": "ordinal-02", "single": "nd"}, {"name":
+  "ordinal-12", "single": "th", "match": "last-two-digits"}, {"name": "ordinal-99", "single": "x",
+  "match": "whole-number"}, {"name": "ordinal-00", "single": "y", "match": "last-digit",
+  "gender-form": "feminine"}]}
+  => (ordinal Default "th") (ordinal Two(2) "nd") (ordinal Two(12) match=LastTwoDigits "th")
+  (ordinal Two(99) match=WholeNumber "x") (ordinal Two(0) match=LastDigit gender=Feminine "y")
+{"terms": [{"name": "long-ordinal-01", "single": "first", "gender-form": "masculine"}, {"name":
+  "long-ordinal-10", "single": "tenth"}]}
+  => (ordinal Long(1) gender=Masculine "first") (ordinal Long(10) "tenth")
+# terms and ordinals keep their own orders
+{"terms": [{"name": "ordinal", "single": "."}, {"name": "at", "single": "in"}, {"name":
+  "ordinal-01", "single": "er"}, {"name": "by", "single": "von"}]}
+  => (term Other(At) Long "in") (term Other(By) Long "von") (ordinal Default ".") (ordinal Two(1)
+  "er")
+{"dates": [{"form": "numeric", "delimiter": "/", "date-part": [ {"name": "month", "form":
+  "numeric-leading-zeros"}, {"name": "year"}]}, {"form": "text", "font-style": "italic", "prefix":
+  "(", "suffix": ")"}]}
+  => (date form=Numeric delimiter="/" [(part Month form=NumericLeadingZeros)(part Year)]) (date
+  form=Text style=Italic prefix="(" suffix=")" [])
+"#;
 
 #[test]
 fn terms_ordinals_dates_and_options(rt: HostRuntime) {
-    for (text, wanted) in &LOCALES {
-        let came = locale_as_text(&rt, rt.alloc(), text);
-        assert_eq!(&rt; came.as_str(), *wanted, "of {text}");
-    }
+    let alloc = rt.alloc();
+    assert_cases(
+        &rt,
+        alloc,
+        LOCALES,
+        &|text| locale_as_text(&rt, alloc, text),
+    );
 }

@@ -1,9 +1,10 @@
 //! Styles that are read: settings, macros, layouts and locales.
 
-use crate::csl_wire_tests::described::Description;
 use crate::csl_wire_tests::described_nodes::{nodes, options};
 use crate::csl_wire_tests::locales::locale;
 use crate::csl_wire_tests::reading::read_style;
+use crate::described::Description;
+use crate::shared::assert_cases;
 use csl_elements::{Layout, OtherTerm, TermForm};
 use csl_style::Style;
 use std::alloc::Global;
@@ -43,50 +44,48 @@ fn style<R: Abort>(out: &mut Description<'_, R>, style: &Style) {
     }
 }
 
-static STYLES: [(&str, &str); 6] = [
-    (
-        "{}",
-        "settings DisplayAndSort with-hyphen; names; of the citation; of the bibliography; citation []",
-    ),
-    (
-        r#"{"page-range-format": "minimal-two", "demote-non-dropping-particle": "never",
-            "initialize-with-hyphen": false, "name-form": "short", "name-delimiter": "; ", "and": "text",
-            "et-al-min": 3}"#,
-        r#"settings pages=MinimalTwo Never; names and=Text name-delimiter="; " min=3 name-form=Short; of the citation; of the bibliography; citation []"#,
-    ),
-    (
-        r#"{"page-range-format": "expanded", "demote-non-dropping-particle": "sort-only",
-            "initialize-with-hyphen": true}"#,
-        "settings pages=Expanded SortOnly with-hyphen; names; of the citation; of the bibliography; citation []",
-    ),
-    (
-        r#"{"page-range-format": "minimal", "demote-non-dropping-particle": "display-and-sort",
-            "macros": [{"name": "b", "children": [{"text": {"value": "x"}}]},
-            {"name": "a", "children": [{"text": {"macro": "b"}}]}, {"name": ""}]}"#,
-        r#"settings pages=Minimal DisplayAndSort with-hyphen; names; of the citation; of the bibliography; macro b [(text value="x")]; macro a [(text macro="b")]; macro  []; citation []"#,
-    ),
-    (
-        r#"{"citation": {"delimiter": "; ", "font-style": "italic", "et-al-min": 2, "name-form": "count",
-            "children": [{"number": {"variable": "citation-number"}}]},
-            "bibliography": {"font-weight": "bold", "and": "symbol", "name-delimiter": ", ",
-            "children": [{"group": {}}]}}"#,
-        r#"settings DisplayAndSort with-hyphen; names; of the citation min=2 name-form=Count; of the bibliography and=Symbol name-delimiter=", "; citation delimiter="; " style=Italic [(number Number(CitationNumber) Numeric)]; bibliography weight=Bold [(group [])]"#,
-    ),
-    // a macro that the style has not is no error, and neither is an empty bibliography
-    (
-        r#"{"citation": {"children": [{"text": {"macro": "a"}}]}, "bibliography": {}, "locales": null}"#,
-        r#"settings DisplayAndSort with-hyphen; names; of the citation; of the bibliography; citation [(text macro="a")]; bibliography []"#,
-    ),
-];
+const STYLES: &str = r#"
+{} => settings DisplayAndSort with-hyphen; names; of the citation; of the bibliography; citation []
+{"page-range-format": "minimal-two", "demote-non-dropping-particle": "never",
+  "initialize-with-hyphen": false, "name-form": "short", "name-delimiter": "; ", "and": "text",
+  "et-al-min": 3}
+  => settings pages=MinimalTwo Never; names and=Text name-delimiter="; " min=3 name-form=Short; of
+  the citation; of the bibliography; citation []
+{"page-range-format": "expanded", "demote-non-dropping-particle": "sort-only",
+  "initialize-with-hyphen": true}
+  => settings pages=Expanded SortOnly with-hyphen; names; of the citation; of the bibliography;
+  citation []
+{"page-range-format": "minimal", "demote-non-dropping-particle": "display-and-sort", "macros":
+  [{"name": "b", "children": [{"text": {"value": "x"}}]}, {"name": "a", "children": [{"text":
+  {"macro": "b"}}]}, {"name": ""}]}
+  => settings pages=Minimal DisplayAndSort with-hyphen; names; of the citation; of the
+  bibliography; macro b [(text value="x")]; macro a [(text macro="b")]; macro  []; citation []
+{"citation": {"delimiter": "; ", "font-style": "italic", "et-al-min": 2, "name-form": "count",
+  "children": [{"number": {"variable": "citation-number"}}]}, "bibliography": {"font-weight":
+  "bold", "and": "symbol", "name-delimiter": ", ", "children": [{"group": {}}]}}
+  => settings DisplayAndSort with-hyphen; names; of the citation min=2 name-form=Count; of the
+  bibliography and=Symbol name-delimiter=", "; citation delimiter="; " style=Italic [(number
+  Number(CitationNumber) Numeric)]; bibliography weight=Bold [(group [])]
+# a macro that the style has not is no error, and neither is an empty bibliography
+{"citation": {"children": [{"text": {"macro": "a"}}]}, "bibliography": {}, "locales": null}
+  => settings DisplayAndSort with-hyphen; names; of the citation; of the bibliography; citation
+  [(text macro="a")]; bibliography []
+"#;
 
 #[test]
 fn settings_macros_and_layouts(rt: HostRuntime) {
-    for (text, wanted) in &STYLES {
-        let read = read_style(&rt, rt.alloc(), text).expect(&rt, "a style");
-        let mut out = Description::new(&rt, rt.alloc());
-        style(&mut out, &read);
-        assert_eq!(&rt; out.as_str(), *wanted, "of {text}");
-    }
+    let alloc = rt.alloc();
+    assert_cases(
+        &rt,
+        alloc,
+        STYLES,
+        &|text| {
+            let read = read_style(&rt, alloc, text).expect(&rt, "a style");
+            let mut out = Description::new(&rt, alloc);
+            style(&mut out, &read);
+            out.into_text()
+        },
+    );
 }
 
 /// The locales of a style, one after another.
@@ -97,37 +96,31 @@ fn locales_as_text(rt: &impl Abort, alloc: Global, text: &str) -> String {
         locale(&mut out, inside);
         out.push(";");
     }
-    String::from_str(alloc, out.as_str()).expect(rt, "memory")
+    out.into_text()
 }
 
 /// An option that a locale does not set is that of the locale after it.
-static LOCALES: [(&str, &str); 5] = [
-    (r#"{"locales": []}"#, ""),
-    (
-        r#"{"locales": [{"terms": [{"name": "by", "single": "von"}]},
-            {"terms": [{"name": "by", "single": "by"}]}]}"#,
-        r#" (term Other(By) Long "von"); (term Other(By) Long "by");"#,
-    ),
-    (
-        r#"{"locales": [{}, {"punctuation-in-quote": true}, {"limit-day-ordinals-to-day-1": true}]}"#,
-        " in-quote day-1; in-quote day-1; day-1;",
-    ),
-    (
-        r#"{"locales": [{"punctuation-in-quote": false}, {}, {"punctuation-in-quote": true}]}"#,
-        "; in-quote; in-quote;",
-    ),
-    (
-        r#"{"locales": [{"limit-day-ordinals-to-day-1": true}, {"punctuation-in-quote": null}]}"#,
-        " day-1;;",
-    ),
-];
+const LOCALES: &str = r#"
+{"locales": []} =>
+{"locales": [{"terms": [{"name": "by", "single": "von"}]}, {"terms": [{"name": "by", "single":
+  "by"}]}]}
+  => (term Other(By) Long "von"); (term Other(By) Long "by");
+{"locales": [{}, {"punctuation-in-quote": true}, {"limit-day-ordinals-to-day-1": true}]}
+  => in-quote day-1; in-quote day-1; day-1;
+{"locales": [{"punctuation-in-quote": false}, {}, {"punctuation-in-quote": true}]}
+  => ; in-quote; in-quote;
+{"locales": [{"limit-day-ordinals-to-day-1": true}, {"punctuation-in-quote": null}]} => day-1;;
+"#;
 
 #[test]
 fn locales_in_their_order(rt: HostRuntime) {
-    for (text, wanted) in &LOCALES {
-        let came = locales_as_text(&rt, rt.alloc(), text);
-        assert_eq!(&rt; came.as_str(), *wanted, "of {text}");
-    }
+    let alloc = rt.alloc();
+    assert_cases(
+        &rt,
+        alloc,
+        LOCALES,
+        &|text| locales_as_text(&rt, alloc, text),
+    );
 }
 
 /// A tag stands for CSL's own locale, in any letters, with or without a region. What a locale before
