@@ -273,6 +273,7 @@ pub(crate) fn item_of(
     let reader = Reader {
         alloc,
         limits: limits.read,
+        marks: false,
     };
     Form::of(reader, value, &[part.members()])
 }

@@ -143,6 +143,7 @@ impl Session {
         let reader = Reader {
             alloc,
             limits: self.limits.read,
+            marks: false,
         };
         members_of(reader, request)?;
         let form = Form {

@@ -1,5 +1,5 @@
 -- What was read, by the facts of its members.
-use Rattle.std.proofs.Common.{◌≡◌, sym, ap, subst, ◌∙◌, ℕ, List, [], Some, map, option_map, unwrap_or, slice_get, codes}
+use Rattle.std.proofs.Common.{◌≡◌, sym, ap, subst, ◌∙◌, ℕ, false, List, [], Some, map, option_map, unwrap_or, slice_get, codes}
 use Rattle.std.specs.List.{AllZip, flat_map}
 use Rattle.serde_json.specs.Data.{Data}
 use Rattle.serde_json.specs.Find.{as_str}
@@ -23,7 +23,7 @@ use Rattle.csl_wire_list.proofs.Longer.{kept_by_listed}
 pub keys_read : (d : Data) (items : List Data) (keys : List SortKey) → read_list (codes "sort") d ≡ Some items → AllZip IsKey items keys → AreKeys d keys
 keys_read d items keys are each = record { items = items; are = are; keys_ = each }
 
-pub style_read : (d own : Data) (s : StyleParts) → Some own ≡ member (codes "style") d → IsStyle own s.settings s.macros s.citation s.bibliography → IsStyleIn d s
+pub style_read : (d own : Data) (s : StyleParts) → Some own ≡ member (codes "style") d → IsStyle false own s.settings s.macros s.citation s.bibliography → IsStyleIn d s
 style_read d own s is style = record { own = own; is = sym is; style_ = style }
 
 pub citation_options_read : (d value : Data) (o : CitationOptions) → Some value ≡ member (codes "citation") d → AreCitationOptions value o → AreCitationOptionsIf (member (codes "citation") d) o

@@ -1,5 +1,5 @@
 -- Which styles with their options JSON objects are read as (CSL 1.0.2, Style Structure).
-use Rattle.std.specs.Prelude.{◌≡◌, Option, Some, None, codes}
+use Rattle.std.specs.Prelude.{◌≡◌, false, Option, Some, None, codes}
 use Rattle.serde_json.specs.Data.{Data}
 use Rattle.csl_style.specs.Style.{StyleParts}
 use Rattle.csl_list.specs.ListStyle.{bibliography_of, citation_of, style_of}
@@ -14,7 +14,7 @@ use Rattle.csl_wire_list.specs.CitationOptions.{read_class, AreCitationOptionsIf
 pub record IsStyleIn (d : Data) (s : StyleParts) : Type 0 where
   pub own : Data
   pub is : member (codes "style") d ≡ Some own
-  pub style_ : IsStyle own s.settings s.macros s.citation s.bibliography
+  pub style_ : IsStyle false own s.settings s.macros s.citation s.bibliography
 
 abbrev pub AreOwnOptions : Data → Option BibliographyOptions → Type 0
 AreOwnOptions d None = ⊥
