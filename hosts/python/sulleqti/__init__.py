@@ -4,7 +4,7 @@
 >>> style = sulleqti.Style("apa.csl", ["en-GB"])       # doctest: +SKIP
 >>> works, faults = sulleqti.works_of("items.json", style.left)       # doctest: +SKIP
 """
-from sulleqti.attributes import Tree, rendered
+from sulleqti.attributes import Tree
 from sulleqti.document import Refused
 from sulleqti.locales import locale_of
 from sulleqti.processor import Content, Document, Entry, Processor, ServerEnded
@@ -12,4 +12,4 @@ from sulleqti.styles import Style
 from sulleqti.works import Work, works_of
 
 __all__ = ["Content", "Document", "Entry", "Processor", "Refused", "ServerEnded", "Style", "Tree",
-           "Work", "locale_of", "rendered", "works_of"]
+           "Work", "locale_of", "works_of"]
