@@ -4,7 +4,7 @@ use crate::csl_wire_list_tests::reading::{
     bibliography_options, citation_options, json, options_of_style, options_text,
 };
 use csl_wire::{Form, Limits, Reader};
-use csl_wire_list::{OptionLimits, list_style_in};
+use csl_wire_list::{OptionLimits, list_style_in, list_style_of};
 
 /// Options of citations, and what is read.
 static CITATIONS: [(&str, &str); 12] = [
@@ -180,6 +180,29 @@ fn styles_with_options(rt: HostRuntime) {
     }
 }
 
+/// Styles, and whether works are English by them that do not say so.
+static LANGUAGES: [(&str, bool); 6] = [
+    (r#"{"style": {}}"#, true),
+    (r#"{"style": {"locales": ["en-GB"]}}"#, true),
+    (r#"{"style": {"locales": ["EN"]}}"#, true),
+    (r#"{"style": {"locales": ["de-DE", "en-US"]}}"#, false),
+    // a locale without a tag says nothing
+    (r#"{"style": {"locales": [{}, "fr"]}}"#, false),
+    (r#"{"style": {"locales": [{}]}}"#, true),
+];
+
+#[test]
+fn languages_of_styles(rt: HostRuntime) {
+    let alloc = rt.alloc();
+    for &(text, wanted) in &LANGUAGES {
+        let value = json(&rt, alloc, text);
+        let style = list_style_of(alloc, &value, OptionLimits::of_strangers());
+        let style = style.expect(&rt, "a style");
+        assert_eq!(&rt; style.is_english(), wanted, "of {text}");
+        drop(style);
+    }
+}
+
 const REQUEST: &str = r#"{
     "op": "style",
     "style": {},
@@ -192,7 +215,11 @@ fn style_of_a_request(rt: HostRuntime) {
     let value = json(&rt, alloc, REQUEST);
     let limits = Limits::of_strangers();
     let form = Form::of(
-        Reader { alloc, limits },
+        Reader {
+            alloc,
+            limits,
+            marks: false,
+        },
         &value,
         &[&["op", "style", "citation"]],
     );
