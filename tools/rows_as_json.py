@@ -1,4 +1,4 @@
-"""The notation of tests/rows as JSON of docs/WIRE.md: styles, layouts, entries and cites."""
+"""The notation of tests/rows as JSON of docs/WIRE.md: styles, layouts, entries, cites and documents."""
 import re
 from typing import Any, Iterable, NamedTuple
 
@@ -18,10 +18,12 @@ class Form(NamedTuple):
 
 LISTS = {"is-numeric", "is-uncertain-date", "locator", "position", "type", "variable"}
 NUMBERS = {"et-al-min", "et-al-use-first", "et-al-subsequent-min", "et-al-subsequent-use-first",
-           "citation-number", "first-reference-note-number"}
+           "citation-number", "first-reference-note-number", "near-note-distance", "line-spacing",
+           "entry-spacing", "note"}
 BOOLEANS = {"et-al-use-last", "initialize", "quotes", "strip-periods", "disambiguate",
             "initialize-with-hyphen", "punctuation-in-quote", "limit-day-ordinals-to-day-1",
-            "near-note", "circa", "comma-suffix"}
+            "near-note", "circa", "comma-suffix", "english", "hidden", "hanging-indent",
+            "disambiguate-add-names", "disambiguate-add-givenname", "disambiguate-add-year-suffix"}
 OPTIONS_OF_NAMES = {"and", "delimiter-precedes-et-al", "delimiter-precedes-last", "et-al-min",
                     "et-al-use-first", "et-al-subsequent-min", "et-al-subsequent-use-first",
                     "et-al-use-last", "initialize", "initialize-with", "name-as-sort-order",
@@ -202,10 +204,52 @@ def style_of(forms: list[Form]) -> dict[str, Json]:
             name = attributes(it.inside)["name"]
             made.setdefault("macros", []).append({"name": name, "children": nodes_of(it.inside)})
         elif it.name in ("citation", "bibliography"):
-            made[it.name] = attributes(it.inside) | {"children": nodes_of(it.inside)}
+            # (the first of a name counts)
+            made.setdefault(it.name, attributes(it.inside) | {"children": nodes_of(it.inside)})
         elif it.name == "locale":
             locales.append(locale_of(it.inside))
     return made | {"locales": locales + ([language] if language else [])}
+
+
+def key_of(forms: list[Form]) -> Json:
+    """A key of a sort."""
+    return attributes(forms) | {"variable": it for it in words(forms)[:1]}
+
+
+def list_style_of(forms: list[Form]) -> dict[str, Json]:
+    """A style with its options for documents."""
+    made: dict[str, Json] = {"style": style_of(forms)}
+    # (the first of a layout counts)
+    for it in reversed(lists(forms)):
+        if it.name not in ("around", "sort"):
+            continue
+        options = made.setdefault(words(it.inside)[0], {})
+        if it.name == "sort":
+            options["sort"] = [key_of(key.inside) for key in lists(it.inside)]
+            continue
+        own = attributes(it.inside)
+        made |= {"class": own.pop(name) for name in ("class",) if name in own}
+        names = ("prefix", "suffix", "delimiter")
+        options["layout"] = {name: own.pop(name) for name in names if name in own}
+        options.update(own)
+    return made
+
+
+def citation_of(forms: list[Form], names: dict[int, str]) -> Json:
+    """A citation of a document, of works by their numbers."""
+    note = attributes(forms).get("note")
+    items = [item_of(it.inside, names) for it in lists(forms)]
+    return {"items": items} | ({} if note is None else {"note-number": note})
+
+
+def item_of(forms: list[Form], names: dict[int, str]) -> Json:
+    """A cite of a citation."""
+    made = attributes(forms) | {"work": names.get(int(words(forms)[0]), "none")}
+    for it in lists(forms):
+        if it.name != "locator":
+            raise NotInWire("a tree around a cite")
+        made["locator"] = locator_of(it.inside)
+    return made
 
 
 def person_of(form: Form) -> Json:
@@ -261,8 +305,9 @@ def number_value(forms: list[Form]) -> Json:
 def entry_of(forms: list[Form], sorts: dict[str, set[str]]) -> Json:
     """An entry, by the names of the variables of each sort."""
     made = attributes(forms)
-    if not set(made) <= {"type"}:
+    if not set(made) <= {"type", "english"}:
         raise NotInWire(f"an entry with {sorted(made)}")
+    english = {"english": made["english"]} if "english" in made else {}
     variables: dict[str, Json] = {}
     for it in lists(forms):
         if it.name in sorts["name"]:
@@ -273,7 +318,7 @@ def entry_of(forms: list[Form], sorts: dict[str, set[str]]) -> Json:
             variables[it.name] = text_value(it.inside)
         else:
             variables[it.name] = number_value(it.inside)
-    return {"type": made.get("type", "").split(), "variables": variables}
+    return {"type": made.get("type", "").split(), **english, "variables": variables}
 
 
 def shown_of(forms: list[Form]) -> Json:
@@ -281,6 +326,12 @@ def shown_of(forms: list[Form]) -> Json:
     made = attributes(forms)
     names = [[None if it == "none" else it for it in words(one.inside)] for one in lists(forms)]
     return {"default": made["default"], "variable": made.get("of", "").split(), "lists": names}
+
+
+def locator_of(forms: list[Form]) -> Json:
+    """A locator. Without a text, the caller writes it."""
+    texts = [it.name for it in forms if it.kind == "text"]
+    return {"label": words(forms)[0]} | {"value": it for it in texts}
 
 
 def cite_of(forms: list[Form]) -> Json:
@@ -297,9 +348,7 @@ def cite_of(forms: list[Form]) -> Json:
         made["year-suffix"] = letters_of(int(made["year-suffix"]))
     for it in lists(forms):
         if it.name == "locator":
-            label = {"label": words(it.inside)[0]}
-            texts = [text.name for text in it.inside if text.kind == "text"]
-            made["locator"] = label | {"value": text for text in texts}
+            made["locator"] = locator_of(it.inside)
         elif it.name == "shown":
             made["names"] = shown_of(it.inside)
     return made

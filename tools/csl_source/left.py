@@ -11,6 +11,7 @@ SEEN = (
     ("words are missing that the library has no term for", "the term .*"),
     ("ranges of dates are cut to their first date", "ranges of dates"),
     ("markup inside of titles is dropped", "markup in texts"),
+    ("words that keep their case have that of the text around them", "`nocase` in texts"),
     ("names are sorted as they print", "`names-(min|use-first|use-last)` of a `key` by a variable"),
     ("texts before and after names are missing", "affixes of `name`"),
     ("texts before and after a part are formatted like the part", "affixes outside of the formatting"),

@@ -54,7 +54,7 @@ def made(name: str, fields: Fields, indent: int) -> list[str]:
     return [*comment(about, indent), *lines]
 
 
-def list_style(tree: Tree, indent: int) -> list[list[str]]:
+def list_style(tree: Tree, is_english: bool, indent: int) -> list[list[str]]:
     """The function that returns the style with its options, and those that it calls."""
     blocks = [made(name, options(name, tree[name]), indent) for name in LISTED if name in tree]
     bibliography = "None"
@@ -64,7 +64,10 @@ def list_style(tree: Tree, indent: int) -> list[list[str]]:
         bibliography = Local("bibliography")
         steps.append((bibliography, "Some(bibliography_options(alloc)?)"))
     new = Call("ListStyle::new", "alloc", "style", "citation", bibliography,
-               tail=".map_err(|_| Error::Memory)")
+               tail=f".map_err(|_| Error::Memory){'' if is_english else '?'}")
+    if not is_english:
+        steps.append((Local("list"), new))
+        new = Call("Ok", "list.with_english(false)")
     space = " " * indent
     lines = function("list_style", "ListStyle", steps, new, indent)
     about = "The style with its options for the citations and the bibliography of a document."

@@ -14,8 +14,6 @@ from sulleqti.styles import LAYOUTS, LISTED, TEXTS, Style, plain
 
 OF_NAMES = ("name-form", "name-delimiter", "names-delimiter", *NAME_OPTIONS)
 LOOK = ("text-case", *FORMATTING, *AFFIXES)
-# The variables whose texts are links. The marks of a case would end the address before its prefix.
-LINKS = ("DOI", "PMCID", "PMID", "URL")
 # The attributes of each node in their order, beside its look.
 OWN = {
     "text": (*TARGETS, "form", "plural", "quotes", "strip-periods"),
@@ -44,7 +42,6 @@ class Rows:
     def __init__(self, path: str, locale: str | None = None) -> None:
         self.style = Style(path, [] if locale is None else [locale_of(locale)])
         self.tree, self.left = self.style.tree["style"], self.style.left
-        del self.left["`text-case`"]
         self.locales = [it for it in self.tree["locales"] if not isinstance(it, str)]
 
     def file(self) -> str:
@@ -94,8 +91,6 @@ class Rows:
             return Form(name, [], list(self.branches(tree)))
         head = tree.get("variable", []) if name != "text" else []
         names = OWN[name] if tree.get("term") != "et-al" or name == "text" else ()
-        if name == "text" and tree.get("variable") in LINKS:
-            tree = {it: tree[it] for it in tree if it != "text-case"}
         term = {"term": term_name(tree["term"])} if "term" in tree else {}
         parts = [*self.nodes(tree.get("children", ())),
                  *map(self.date_part, tree.get("date-part", ())),

@@ -2,7 +2,7 @@
 import os
 from typing import Sequence
 
-from csl_source import library, lists
+from csl_source import cases, library, lists
 from csl_source.code import (Call, Expression, Local, Step, Vector, comment, function, lines_of,
                              over, quoted, snake, unique)
 from csl_source.elements import Elements, formatting, given, name_options, some
@@ -16,11 +16,16 @@ MACROS = 30
 
 class StyleFile:
     """Writes a style with its locales, which have these names, as a file, or as a module inside of
-    one."""
+    one. It has marks of text cases, for `csl_list`, or leaves the cases out."""
 
-    def __init__(self, style: Style, locales: Sequence[str], module: str | None = None) -> None:
+    def __init__(self, style: Style, locales: Sequence[str], module: str | None = None,
+                 has_cases: bool = False) -> None:
         self.style, self.tree, self.names = style, style.tree["style"], locales
-        self.module, self.indent = module, 4 if module else 0
+        self.module, self.indent, self.has_cases = module, 4 if module else 0, has_cases
+        if has_cases:
+            self.tree = cases.marked(self.tree)
+        else:
+            style.left["`text-case`"] += style.elements.cases
         own = ["style", "style_settings", "list_style", *(f"{it}_options" for it in LAYOUTS)]
         taken = dict.fromkeys([*own, *HELPERS], 2)
         self.elements = Elements(taken, self.indent)
@@ -33,7 +38,8 @@ class StyleFile:
         added = self.macro_lists([self.macro(it) for it in self.tree["macros"]])
         names = [name for name, _ in added]
         main = self.main(bool(settings), names, layouts, self.locale_calls())
-        blocks = [main, *lists.list_style(self.style.tree, self.indent)]
+        is_english = not self.has_cases or self.style.language.lower().startswith("en")
+        blocks = [main, *lists.list_style(self.style.tree, is_english, self.indent)]
         blocks += [settings] if settings else []
         blocks += [*(lines for _, lines in added), *self.elements.functions]
         return self.joined([*blocks, *self.locales.written, *self.locales.helpers()])
@@ -52,9 +58,12 @@ class StyleFile:
         words = [self.style.path, *(word for it in self.names for word in ("--locale", it))]
         words = [plain(os.path.basename(word)) for word in words]
         words += ["--module", self.module] if self.module else []
+        words += ["--text-case"] if self.has_cases else []
         command = f"`tools/style {' '.join(words)}`"
         text = f"The style “{self.style.title}”, with its locale. {command} wrote this: change " \
             "the style there."
+        text += " Its affixes have the marks of text cases: `csl_list` takes them, and so does " \
+            "`csl_finish::apply_text_case`." if self.has_cases else " It has no text case."
         lines = comment(text, self.indent, "//!")
         if self.style.rights:
             lines.append(f"{' ' * self.indent}//!")

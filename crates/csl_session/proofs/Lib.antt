@@ -1,3 +1,4 @@
 pub mod Replied
 pub mod Sums
+pub mod Cased
 pub mod Rendered

@@ -1,4 +1,5 @@
 -- The definitions that the contracts of `csl_session` cite.
 pub mod Kept
 pub mod Replies
+pub mod Cases
 pub mod Rendered

@@ -6,6 +6,7 @@
 #![tactic(auto)]
 
 mod asked;
+mod cases;
 mod documents;
 mod hello;
 mod keeping;

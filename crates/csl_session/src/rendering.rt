@@ -2,14 +2,14 @@
 //! Definitions: specs/Rendered.antt.
 
 ghost use Rattle.std.specs.Prelude.{◌≡◌, None, Some, IfOk, option_map};
-ghost use Rattle.serde_json.specs.Data.{string};
 ghost use Rattle.serde_json.specs.View.{view};
 ghost use Rattle.csl.specs.Entry.Cite.{cite_state};
 ghost use Rattle.csl.specs.Render.Cites.{new_cite, sort_key_text, whole_cite};
 ghost use Rattle.csl.specs.Style.declared.style.settings.Scope.TheVariants as scopes;
 ghost use Rattle.csl.specs.Tree.Tokens.{tokens};
-ghost use Rattle.csl_session.specs.Rendered.{IsContentOf, IsLineOf};
+ghost use Rattle.csl_session.specs.Rendered.{IsContentOf, IsKeyOf, IsLineOf};
 
+use crate::cases::{cased, cased_text};
 use crate::limits::SessionLimits;
 use csl::style::Scope;
 use csl::{CiteProperties, EntryLike, Error, Rendered, Renderer, Sorting, SpecialForm};
@@ -77,11 +77,18 @@ fn cite_of_item<'v>(
     }
 }
 
-/// What was rendered, in these formats.
-fn rendered_value(alloc: Global, rendered: Rendered, formats: Formats) -> Result<Value, WireError>
+/// What was rendered, its texts in their cases, in these formats.
+#[tactic(auto, using(crate::proofs::Rendered::content_made))]
+fn rendered_value(
+    alloc: Global,
+    rendered: Rendered,
+    is_english: bool,
+    formats: Formats,
+) -> Result<Value, WireError>
     ensures { IfOk result (λ v. IsContentOf formats (tokens rendered.content) (view v)) }
 {
-    let value = content_value(alloc, rendered.content, formats)?;
+    let content = cased(alloc, rendered.content, is_english)?;
+    let value = content_value(alloc, content, formats)?;
     Ok(value)
 }
 
@@ -92,6 +99,7 @@ fn whole_value<T: EntryLike>(
     renderer: &mut Renderer<'_>,
     work: &T,
     cite: &CiteProperties<'_>,
+    is_english: bool,
     formats: Formats,
 ) -> Result<Value, WireError>
     ensures { IfOk result (λ v. IsContentOf formats (whole_cite renderer.old.style scopes.Citation
@@ -99,7 +107,7 @@ fn whole_value<T: EntryLike>(
 {
     match renderer.cite(alloc, work, cite) {
         Ok(rendered) => {
-            let value = rendered_value(alloc, rendered, formats)?;
+            let value = rendered_value(alloc, rendered, is_english, formats)?;
             Ok(value)
         }
         Err(error) => Err(of_rendering(alloc, error)),
@@ -114,6 +122,7 @@ fn part_value<T: EntryLike>(
     work: &T,
     cite: &CiteProperties<'_>,
     form: SpecialForm,
+    is_english: bool,
     formats: Formats,
 ) -> Result<Value, WireError>
     ensures { IfOk result (λ v. IsContentOf formats (new_cite renderer.old.style scopes.Citation
@@ -122,7 +131,7 @@ fn part_value<T: EntryLike>(
 {
     match renderer.cite_in(alloc, work, cite, form) {
         Ok(rendered) => {
-            let value = rendered_value(alloc, rendered, formats)?;
+            let value = rendered_value(alloc, rendered, is_english, formats)?;
             Ok(value)
         }
         Err(error) => Err(of_rendering(alloc, error)),
@@ -135,19 +144,21 @@ fn cite_value<T: EntryLike>(
     renderer: &mut Renderer<'_>,
     work: &T,
     cite: &WireCite<'_>,
+    is_english: bool,
     formats: Formats,
 ) -> Result<Value, WireError>
     ensures { IfOk result (λ v. IsContentOf formats (new_cite renderer.old.style scopes.Citation
         (cite_state cite.now.properties) None cite.now.form (T.answers work.now)
         renderer.old.style.citation).content (view v)) }
 {
-    match cite.form {
+    let (cite, form) = (&cite.properties, cite.form);
+    match form {
         Some(form) => {
-            let value = part_value(alloc, renderer, work, &cite.properties, form, formats)?;
+            let value = part_value(alloc, renderer, work, cite, form, is_english, formats)?;
             Ok(value)
         }
         None => {
-            let value = whole_value(alloc, renderer, work, &cite.properties, formats)?;
+            let value = whole_value(alloc, renderer, work, cite, is_english, formats)?;
             Ok(value)
         }
     }
@@ -160,6 +171,7 @@ fn line_value<T: EntryLike>(
     renderer: &mut Renderer<'_>,
     work: &T,
     cite: &WireCite<'_>,
+    is_english: bool,
     formats: Formats,
 ) -> Result<Value, WireError>
     ensures { IfOk result (λ v. IsLineOf formats (option_map (λ layout. (whole_cite
@@ -168,7 +180,7 @@ fn line_value<T: EntryLike>(
 {
     match renderer.bibliography_entry(alloc, work, &cite.properties) {
         Ok(Some(rendered)) => {
-            let value = rendered_value(alloc, rendered, formats)?;
+            let value = rendered_value(alloc, rendered, is_english, formats)?;
             Ok(value)
         }
         Ok(None) => Ok(Value::Null),
@@ -187,8 +199,16 @@ fn variable_node(alloc: Global, variable: Variable) -> Result<LayoutRenderingEle
     })
 }
 
-/// The layout of a key, and its source: one of a macro and a variable.
-fn key_layout(form: Form<'_>) -> Result<(Layout, Sorting), WireError> {
+/// A key to sort by.
+#[derive(Drop)]
+struct Key {
+    layout: Layout,
+    scope: Scope,
+    sorting: Sorting,
+}
+
+/// The key of an item: by one of a macro and a variable.
+fn key_of(form: Form<'_>, scope: Scope) -> Result<Key, WireError> {
     let alloc = form.reader.alloc;
     let variable = form.named::<Variable>("variable")?;
     let (node, sorting) = match (form.word("macro")?, variable) {
@@ -199,67 +219,74 @@ fn key_layout(form: Form<'_>) -> Result<(Layout, Sorting), WireError> {
             return Err(WireError::of(alloc, Code::WrongType, reason));
         }
     };
-    let layout = Layout::new(vec![in alloc; node]?);
-    Ok((layout, sorting))
+    Ok(Key {
+        layout: Layout::new(vec![in alloc; node]?),
+        scope,
+        sorting,
+    })
 }
 
-/// The text of a key to sort by, of this layout.
+/// The text of a key, in its case.
+#[tactic(auto, using(crate::proofs::Rendered::key_made))]
 fn sorted_value<T: EntryLike>(
     alloc: Global,
     renderer: &mut Renderer<'_>,
     work: &T,
     cite: &CiteProperties<'_>,
-    layout: &Layout,
-    scope: Scope,
-    sorting: Sorting,
+    key: &Key,
+    is_english: bool,
 ) -> Result<Value, WireError>
-    ensures { IfOk result (λ v. view v ≡ string (sort_key_text renderer.old.style scope
-        (cite_state cite.now) sorting (T.answers work.now) layout.now)) }
+    ensures { IfOk result (λ v. IsKeyOf (sort_key_text renderer.old.style key.now.scope
+        (cite_state cite.now) key.now.sorting (T.answers work.now) key.now.layout) (view v)) }
 {
-    match renderer.sort_key(alloc, work, cite, layout, scope, sorting) {
-        Ok(key) => Ok(Value::String(key)),
+    let Key {
+        layout,
+        scope,
+        sorting,
+    } = key;
+    match renderer.sort_key(alloc, work, cite, layout, *scope, *sorting) {
+        Ok(text) => {
+            let text = cased_text(alloc, text, is_english)?;
+            Ok(Value::String(text))
+        }
         Err(error) => Err(of_rendering(alloc, error)),
     }
 }
 
-/// The text of a key to sort by.
+/// The text of the key of an item.
 fn key_value<T: EntryLike>(
     renderer: &mut Renderer<'_>,
     work: &T,
     cite: &WireCite<'_>,
     item: Form<'_>,
     scope: Scope,
+    is_english: bool,
 ) -> Result<Value, WireError> {
     let alloc = item.reader.alloc;
-    let (layout, sorting) = key_layout(item)?;
-    let key = sorted_value(
-        alloc,
-        renderer,
-        work,
-        &cite.properties,
-        &layout,
-        scope,
-        sorting,
-    );
-    drop(layout);
-    key
+    let key = key_of(item, scope)?;
+    let value = sorted_value(alloc, renderer, work, &cite.properties, &key, is_english);
+    drop(key);
+    value
 }
 
-/// An item of a batch, for its work.
+/// An item of a batch, for its work. `is_english` is whether the work is English if it does not say
+/// so itself.
 pub(crate) fn item_value<T: EntryLike>(
     limits: SessionLimits,
     renderer: &mut Renderer<'_>,
     work: &T,
     item: Form<'_>,
     part: Part,
+    is_english: bool,
 ) -> Result<Value, WireError> {
     let alloc = item.reader.alloc;
     let empty = Value::Object(Map::new(alloc));
     let cite = cite_of_item(limits, item, &empty)?;
+    let is_english = work.is_english().unwrap_or(is_english);
     match part {
-        Part::Cite(formats) => cite_value(alloc, renderer, work, &cite, formats),
-        Part::Line(formats) => line_value(alloc, renderer, work, &cite, formats),
-        Part::Key(scope) => key_value(renderer, work, &cite, item, scope),
+        Part::Cite(formats) => cite_value(alloc, renderer, work, &cite, is_english, formats),
+        Part::Line(formats) => line_value(alloc, renderer, work, &cite, is_english, formats),
+        Part::Key(scope) => key_value(renderer, work, &cite, item, scope, is_english),
     }
 }
 
@@ -273,6 +300,7 @@ pub(crate) fn item_of(
     let reader = Reader {
         alloc,
         limits: limits.read,
+        marks: false,
     };
     Form::of(reader, value, &[part.members()])
 }

@@ -68,13 +68,15 @@ impl Session {
         }
     }
 
-    /// One item of a batch: by a kept work, which it names, or by a work of its own.
+    /// One item of a batch: by a kept work, which it names, or by a work of its own. `is_english` is
+    /// whether works are English that do not say so themselves.
     fn item_value(
         &self,
         alloc: Global,
         renderer: &mut Renderer<'_>,
         value: &Value,
         part: Part,
+        is_english: bool,
     ) -> Result<Value, WireError> {
         let item = item_of(self.limits, alloc, value, part)?;
         let Some(work) = item.member("work") else {
@@ -82,13 +84,13 @@ impl Session {
         };
         if let Some(name) = work.as_str() {
             return match self.works.get(name) {
-                Some(work) => item_value(self.limits, renderer, work, item, part),
+                Some(work) => item_value(self.limits, renderer, work, item, part, is_english),
                 None => Err(unknown(alloc, "work", "no work is kept by this name", name)),
             };
         }
         let read = entry_of(alloc, work, self.limits.work);
         let work = within(Step::Member("work"), read)?;
-        item_value(self.limits, renderer, &work, item, part)
+        item_value(self.limits, renderer, &work, item, part, is_english)
     }
 
     /// Renders the items of a member, each with an outcome of its own.
@@ -99,7 +101,7 @@ impl Session {
         let mut renderer = Renderer::new(style.style()).limited(self.limits.room);
         let mut outcomes = Vec::with_capacity(alloc, items.len())?;
         for (place, item) in items.iter().enumerate() {
-            let made = self.item_value(alloc, &mut renderer, item, part);
+            let made = self.item_value(alloc, &mut renderer, item, part, style.is_english());
             let made = within(Step::Member(name), within(Step::Item(place), made));
             outcomes.push(outcome_value(alloc, made)?)?;
         }
@@ -143,6 +145,7 @@ impl Session {
         let reader = Reader {
             alloc,
             limits: self.limits.read,
+            marks: false,
         };
         members_of(reader, request)?;
         let form = Form {

@@ -62,13 +62,13 @@ dressing_read d f a s e1 e2 e3 =
     ∙ (ap (option_and_then (λ a2. option_map (with_parts f a2) (read_display d))) e2
     ∙ ap (option_map (with_parts f (affix_texts a))) e3)
 
-pub group_read : (P : List Data → List Node → Type 0) (d : Data) (children : Vec LayoutRenderingElement Global) (delimiter : Option (String Global)) (f : Formatting) (a : Affixes) (s : Option Display) (items : List Data)
+pub group_read : (marks : Bool) (P : List Data → List Node → Type 0) (d : Data) (children : Vec LayoutRenderingElement Global) (delimiter : Option (String Global)) (f : Formatting) (a : Affixes) (s : Option Display) (items : List Data)
     → read_member as_str (codes "delimiter") d ≡ Some (text_if delimiter)
     → read_formatting d ≡ Some f → read_affixes d ≡ Some (affix_texts a) → read_display d ≡ Some s
     → read_list (codes "children") d ≡ Some items → P items (map view_node children.items)
-    → IsNodeOf P (codes "group") d (view_group (roll-Group record { children = children; delimiter = delimiter; formatting = f; affixes = a; display = s }))
-group_read P d children delimiter f a s items e0 e1 e2 e3 e4 p =
-    subst (IsNodeOf P (codes "group") d) (sym (group_view (roll-Group record { children = children; delimiter = delimiter; formatting = f; affixes = a; display = s }))) (
+    → IsNodeOf marks P (codes "group") d (view_group (roll-Group record { children = children; delimiter = delimiter; formatting = f; affixes = a; display = s }))
+group_read marks P d children delimiter f a s items e0 e1 e2 e3 e4 p =
+    subst (IsNodeOf marks P (codes "group") d) (sym (group_view (roll-Group record { children = children; delimiter = delimiter; formatting = f; affixes = a; display = s }))) (
       refl,
       record {
         delimiter_ = e0;
@@ -77,15 +77,15 @@ group_read P d children delimiter f a s items e0 e1 e2 e3 e4 p =
       },
     )
 
-pub names_read : (P : List Data → List Node → Type 0) (d : Data) (variables : Vec NameVariable Global) (children : Vec NamesChild Global) (options : InheritableNameOptions) (delimiter : Option (String Global)) (f : Formatting) (a : Affixes) (s : Option Display) (items : List Data)
+pub names_read : (marks : Bool) (P : List Data → List Node → Type 0) (d : Data) (variables : Vec NameVariable Global) (children : Vec NamesChild Global) (options : InheritableNameOptions) (delimiter : Option (String Global)) (f : Formatting) (a : Affixes) (s : Option Display) (items : List Data)
     → AreNamed name_variable_has (codes "variable") d variables.items
     → AreOptions (codes "name-form") (codes "name-delimiter") d (partial_options options)
     → read_member as_str (codes "delimiter") d ≡ Some (text_if delimiter)
     → read_formatting d ≡ Some f → read_affixes d ≡ Some (affix_texts a) → read_display d ≡ Some s
-    → read_list (codes "children") d ≡ Some items → AllZip (IsChild P) items (map view_child children.items)
-    → IsNodeOf P (codes "names") d (view_names (roll-Names record { variable = variables; children = children; options = options; delimiter = delimiter; formatting = f; affixes = a; display = s }))
-names_read P d variables children options delimiter f a s items named opts e0 e1 e2 e3 e4 p =
-    subst (IsNodeOf P (codes "names") d) (sym (names_view (roll-Names record { variable = variables; children = children; options = options; delimiter = delimiter; formatting = f; affixes = a; display = s }))) (
+    → read_list (codes "children") d ≡ Some items → AllZip (IsChild marks P) items (map view_child children.items)
+    → IsNodeOf marks P (codes "names") d (view_names (roll-Names record { variable = variables; children = children; options = options; delimiter = delimiter; formatting = f; affixes = a; display = s }))
+names_read marks P d variables children options delimiter f a s items named opts e0 e1 e2 e3 e4 p =
+    subst (IsNodeOf marks P (codes "names") d) (sym (names_view (roll-Names record { variable = variables; children = children; options = options; delimiter = delimiter; formatting = f; affixes = a; display = s }))) (
       refl,
       record {
         variables_ = named;
@@ -130,20 +130,20 @@ branch_read P d disambiguate is_numeric is_uncertain_date locator position type_
     })
 
 -- a layout by its parts
-pub layout_read : (d : Data) (delimiter : Option (String Global)) (f : Formatting) (elements : Vec LayoutRenderingElement Global)
+pub layout_read : (marks : Bool) (d : Data) (delimiter : Option (String Global)) (f : Formatting) (elements : Vec LayoutRenderingElement Global)
     → read_member as_str (codes "delimiter") d ≡ Some (text_if delimiter)
     → read_formatting d ≡ Some f
-    → AreNodesIn (AreNodes 43) (codes "children") d (view_nodes elements.items)
-    → IsLayout d (view_layout (record { elements = elements; delimiter = delimiter; formatting = f }))
-layout_read d delimiter f elements e1 e2 p = record { delimiter_ = e1; formatting_ = e2; elements_ = p }
+    → AreNodesIn (AreNodes marks 43) (codes "children") d (view_nodes elements.items)
+    → IsLayout marks d (view_layout (record { elements = elements; delimiter = delimiter; formatting = f }))
+layout_read marks d delimiter f elements e1 e2 p = record { delimiter_ = e1; formatting_ = e2; elements_ = p }
 
 -- a name by its parts
-pub name_read : (d : Data) (options : InheritableNameOptions) (f : Formatting) (parts : Vec NamePart Global) (items : List Data)
+pub name_read : (marks : Bool) (d : Data) (options : InheritableNameOptions) (f : Formatting) (parts : Vec NamePart Global) (items : List Data)
     → AreOptions (codes "form") (codes "delimiter") d (partial_options options)
     → read_formatting d ≡ Some f
-    → read_list (codes "name-part") d ≡ Some items → map read_name_part items ≡ map Some (map view_part parts.items)
-    → IsName d (view_name (record { options = options; formatting = f; parts = parts }))
-name_read d options f parts items o e1 e2 e3 = record {
+    → read_list (codes "name-part") d ≡ Some items → map (read_name_part marks) items ≡ map Some (map view_part parts.items)
+    → IsName marks d (view_name (record { options = options; formatting = f; parts = parts }))
+name_read marks d options f parts items o e1 e2 e3 = record {
   options_ = o;
   formatting_ = e1;
   parts_ = record { items = items; are = e2; read_as = e3 };
@@ -152,35 +152,35 @@ name_read d options f parts items o e1 e2 e3 = record {
 -- ---- nodes as rendering elements
 
 -- a node of an element of this name
-node_of : (P : List Data → List Node → Type 0) (kind name : List ℕ) (e d : Data) (n : Node) → read_element d ≡ Some (kind, e) → kind ≡ name → IsNodeOf P name e n → IsNode P d n
-node_of P kind name e d n is k r = record { kind = name; inside = e; is = subst (λ w. read_element d ≡ Some (w, e)) k is; node = r }
+node_of : (marks : Bool) (P : List Data → List Node → Type 0) (kind name : List ℕ) (e d : Data) (n : Node) → read_element d ≡ Some (kind, e) → kind ≡ name → IsNodeOf marks P name e n → IsNode marks P d n
+node_of marks P kind name e d n is k r = record { kind = name; inside = e; is = subst (λ w. read_element d ≡ Some (w, e)) k is; node = r }
 
-pub group_node : (P : List Data → List Node → Type 0) (kind : List ℕ) (e d : Data) (g : Group) → read_element d ≡ Some (kind, e) → kind ≡ codes "group" → IsNodeOf P (codes "group") e (view_group g) → IsNode P d (view_node (elements.Group g))
-group_node P kind e d g is k r = node_of P kind (codes "group") e d (view_node (elements.Group g)) is k (subst (IsNodeOf P (codes "group") e) (sym (in_group g)) r)
+pub group_node : (marks : Bool) (P : List Data → List Node → Type 0) (kind : List ℕ) (e d : Data) (g : Group) → read_element d ≡ Some (kind, e) → kind ≡ codes "group" → IsNodeOf marks P (codes "group") e (view_group g) → IsNode marks P d (view_node (elements.Group g))
+group_node marks P kind e d g is k r = node_of marks P kind (codes "group") e d (view_node (elements.Group g)) is k (subst (IsNodeOf marks P (codes "group") e) (sym (in_group g)) r)
 
-pub names_node : (P : List Data → List Node → Type 0) (kind : List ℕ) (e d : Data) (g : Names) → read_element d ≡ Some (kind, e) → kind ≡ codes "names" → IsNodeOf P (codes "names") e (view_names g) → IsNode P d (view_node (elements.Names g))
-names_node P kind e d g is k r = node_of P kind (codes "names") e d (view_node (elements.Names g)) is k (subst (IsNodeOf P (codes "names") e) (sym (in_names g)) r)
+pub names_node : (marks : Bool) (P : List Data → List Node → Type 0) (kind : List ℕ) (e d : Data) (g : Names) → read_element d ≡ Some (kind, e) → kind ≡ codes "names" → IsNodeOf marks P (codes "names") e (view_names g) → IsNode marks P d (view_node (elements.Names g))
+names_node marks P kind e d g is k r = node_of marks P kind (codes "names") e d (view_node (elements.Names g)) is k (subst (IsNodeOf marks P (codes "names") e) (sym (in_names g)) r)
 
-pub choose_node : (P : List Data → List Node → Type 0) (kind : List ℕ) (e d : Data) (g : Choose) → read_element d ≡ Some (kind, e) → kind ≡ codes "choose" → IsNodeOf P (codes "choose") e (view_choose g) → IsNode P d (view_node (elements.Choose g))
-choose_node P kind e d g is k r = node_of P kind (codes "choose") e d (view_node (elements.Choose g)) is k (subst (IsNodeOf P (codes "choose") e) (sym (in_choose g)) r)
+pub choose_node : (marks : Bool) (P : List Data → List Node → Type 0) (kind : List ℕ) (e d : Data) (g : Choose) → read_element d ≡ Some (kind, e) → kind ≡ codes "choose" → IsNodeOf marks P (codes "choose") e (view_choose g) → IsNode marks P d (view_node (elements.Choose g))
+choose_node marks P kind e d g is k r = node_of marks P kind (codes "choose") e d (view_node (elements.Choose g)) is k (subst (IsNodeOf marks P (codes "choose") e) (sym (in_choose g)) r)
 
 in_text : (x : Text) → view_node (elements.Text x) ≡ view_text x
 in_text x = ap view_node (sym (elements.rolls-Text x)) ∙ fold-roll-LayoutRenderingElement Node NamesChildView Node BranchView Node Node Nodes element_step child_step choose_step branch_step group_step names_step substitute_step (level.Text x)
 
-text_is : (P : List Data → List Node → Type 0) (e : Data) (t : Text) (source : TextTarget) → t.target ≡ source → IsText e t → IsNodeOf P (codes "text") e (view_text t)
-text_is P e t (target.Variable v form) is r = rw is (refl, record { value = t; is_read = r; is = rw is refl })
-text_is P e t (target.Macro name) is r = rw is (refl, record { value = t; is_read = r; is = rw is refl })
-text_is P e t (target.Term v form plural) is r = rw is (refl, record { value = t; is_read = r; is = rw is refl })
-text_is P e t (target.Value words) is r = rw is (refl, record { value = t; is_read = r; is = rw is refl })
+text_is : (marks : Bool) (P : List Data → List Node → Type 0) (e : Data) (t : Text) (source : TextTarget) → t.target ≡ source → IsText marks e t → IsNodeOf marks P (codes "text") e (view_text t)
+text_is marks P e t (target.Variable v form) is r = rw is (refl, record { value = t; is_read = r; is = rw is refl })
+text_is marks P e t (target.Macro name) is r = rw is (refl, record { value = t; is_read = r; is = rw is refl })
+text_is marks P e t (target.Term v form plural) is r = rw is (refl, record { value = t; is_read = r; is = rw is refl })
+text_is marks P e t (target.Value words) is r = rw is (refl, record { value = t; is_read = r; is = rw is refl })
 
-pub text_node : (P : List Data → List Node → Type 0) (kind : List ℕ) (e d : Data) (x : Text) → read_element d ≡ Some (kind, e) → kind ≡ codes "text" → IsText e x → IsNode P d (view_node (elements.Text x))
-text_node P kind e d x is k r = node_of P kind (codes "text") e d (view_node (elements.Text x)) is k (subst (IsNodeOf P (codes "text") e) (sym (in_text x)) (text_is P e x x.target refl r))
+pub text_node : (marks : Bool) (P : List Data → List Node → Type 0) (kind : List ℕ) (e d : Data) (x : Text) → read_element d ≡ Some (kind, e) → kind ≡ codes "text" → IsText marks e x → IsNode marks P d (view_node (elements.Text x))
+text_node marks P kind e d x is k r = node_of marks P kind (codes "text") e d (view_node (elements.Text x)) is k (subst (IsNodeOf marks P (codes "text") e) (sym (in_text x)) (text_is marks P e x x.target refl r))
 
 in_label : (x : Label) → view_node (elements.Label x) ≡ label x.variable (view_label x.label)
 in_label x = ap view_node (sym (elements.rolls-Label x)) ∙ fold-roll-LayoutRenderingElement Node NamesChildView Node BranchView Node Node Nodes element_step child_step choose_step branch_step group_step names_step substitute_step (level.LayoutRenderingElement::Label x)
 
-pub label_node : (P : List Data → List Node → Type 0) (kind : List ℕ) (e d : Data) (x : Label) → read_element d ≡ Some (kind, e) → kind ≡ codes "label" → IsLabel e x.variable (view_label x.label) → IsNode P d (view_node (elements.Label x))
-label_node P kind e d x is k r = node_of P kind (codes "label") e d (view_node (elements.Label x)) is k (subst (IsNodeOf P (codes "label") e) (sym (in_label x)) (refl, r))
+pub label_node : (marks : Bool) (P : List Data → List Node → Type 0) (kind : List ℕ) (e d : Data) (x : Label) → read_element d ≡ Some (kind, e) → kind ≡ codes "label" → IsLabel marks e x.variable (view_label x.label) → IsNode marks P d (view_node (elements.Label x))
+label_node marks P kind e d x is k r = node_of marks P kind (codes "label") e d (view_node (elements.Label x)) is k (subst (IsNodeOf marks P (codes "label") e) (sym (in_label x)) (refl, r))
 
 -- ---- children of names
 
@@ -190,14 +190,14 @@ substitute_out x = rw (fold_out-Substitute Node NamesChildView Node BranchView N
 substitute_view : (x : Substitute) → view_child (of_names.Substitute x) ≡ a_substitute (view_nodes x.children.items)
 substitute_view x = ap view_child (sym (of_names.rolls-Substitute x)) ∙ fold-roll-NamesChild Node NamesChildView Node BranchView Node Node Nodes element_step child_step choose_step branch_step group_step names_step substitute_step (level.Substitute x) ∙ ap a_substitute (substitute_out x)
 
-pub substitute_child : (P : List Data → List Node → Type 0) (kind : List ℕ) (e d : Data) (children : Vec LayoutRenderingElement Global) (items : List Data) → read_element d ≡ Some (kind, e) → kind ≡ codes "substitute" → read_items e ≡ Some items → P items (map view_node children.items) → IsChild P d (view_child (of_names.Substitute (roll-Substitute record { children = children })))
-substitute_child P kind e d children items is k e1 p =
+pub substitute_child : (marks : Bool) (P : List Data → List Node → Type 0) (kind : List ℕ) (e d : Data) (children : Vec LayoutRenderingElement Global) (items : List Data) → read_element d ≡ Some (kind, e) → kind ≡ codes "substitute" → read_items e ≡ Some items → P items (map view_node children.items) → IsChild marks P d (view_child (of_names.Substitute (roll-Substitute record { children = children })))
+substitute_child marks P kind e d children items is k e1 p =
     let x = roll-Substitute record { children = children } in
-    subst (IsChild P d) (sym (substitute_view x))
+    subst (IsChild marks P d) (sym (substitute_view x))
     (record { kind = codes "substitute"; inside = e; is = subst (λ w. read_element d ≡ Some (w, e)) k is; child = (refl, record { items = items; are = e1; list = map view_node children.items; is = refl; each = p }) })
 
-child_of : (P : List Data → List Node → Type 0) (kind name : List ℕ) (e d : Data) (c : NamesChildView) → read_element d ≡ Some (kind, e) → kind ≡ name → IsChildOf P name e c → IsChild P d c
-child_of P kind name e d c is k r = record { kind = name; inside = e; is = subst (λ w. read_element d ≡ Some (w, e)) k is; child = r }
+child_of : (marks : Bool) (P : List Data → List Node → Type 0) (kind name : List ℕ) (e d : Data) (c : NamesChildView) → read_element d ≡ Some (kind, e) → kind ≡ name → IsChildOf marks P name e c → IsChild marks P d c
+child_of marks P kind name e d c is k r = record { kind = name; inside = e; is = subst (λ w. read_element d ≡ Some (w, e)) k is; child = r }
 
 in_name : (x : Name) → view_child (of_names.Name x) ≡ a_name (view_name x)
 in_name x = ap view_child (sym (of_names.rolls-Name x)) ∙ fold-roll-NamesChild Node NamesChildView Node BranchView Node Node Nodes element_step child_step choose_step branch_step group_step names_step substitute_step (level.Name x)
@@ -205,18 +205,18 @@ in_name x = ap view_child (sym (of_names.rolls-Name x)) ∙ fold-roll-NamesChild
 in_label_child : (x : VariablelessLabel) → view_child (of_names.Label x) ≡ a_label (view_label x)
 in_label_child x = ap view_child (sym (of_names.rolls-Label x)) ∙ fold-roll-NamesChild Node NamesChildView Node BranchView Node Node Nodes element_step child_step choose_step branch_step group_step names_step substitute_step (level.NamesChild::Label x)
 
-pub name_child : (P : List Data → List Node → Type 0) (kind : List ℕ) (e d : Data) (x : Name) → read_element d ≡ Some (kind, e) → kind ≡ codes "name" → IsName e (view_name x) → IsChild P d (view_child (of_names.Name x))
-name_child P kind e d x is k r = child_of P kind (codes "name") e d (view_child (of_names.Name x)) is k (subst (IsChildOf P (codes "name") e) (sym (in_name x)) (refl, r))
+pub name_child : (marks : Bool) (P : List Data → List Node → Type 0) (kind : List ℕ) (e d : Data) (x : Name) → read_element d ≡ Some (kind, e) → kind ≡ codes "name" → IsName marks e (view_name x) → IsChild marks P d (view_child (of_names.Name x))
+name_child marks P kind e d x is k r = child_of marks P kind (codes "name") e d (view_child (of_names.Name x)) is k (subst (IsChildOf marks P (codes "name") e) (sym (in_name x)) (refl, r))
 
-pub label_child : (P : List Data → List Node → Type 0) (kind : List ℕ) (e d : Data) (x : VariablelessLabel) → read_element d ≡ Some (kind, e) → kind ≡ codes "label" → read_label e ≡ Some (view_label x) → IsChild P d (view_child (of_names.Label x))
-label_child P kind e d x is k r = child_of P kind (codes "label") e d (view_child (of_names.Label x)) is k (subst (IsChildOf P (codes "label") e) (sym (in_label_child x)) (refl, r))
+pub label_child : (marks : Bool) (P : List Data → List Node → Type 0) (kind : List ℕ) (e d : Data) (x : VariablelessLabel) → read_element d ≡ Some (kind, e) → kind ≡ codes "label" → read_label marks e ≡ Some (view_label x) → IsChild marks P d (view_child (of_names.Label x))
+label_child marks P kind e d x is k r = child_of marks P kind (codes "label") e d (view_child (of_names.Label x)) is k (subst (IsChildOf marks P (codes "label") e) (sym (in_label_child x)) (refl, r))
 
 -- ---- lists of nodes
 
 -- a list of nodes, with one list more
-pub nodes_above : (left lower i : ℕ) (vs : List Value) (es : List LayoutRenderingElement) → lower + 1 ≡ left → length vs ≤ i → AllZip (IsNode (AreNodes lower)) (map view (take i vs)) (map view_node es) → AreNodes left (map view vs) (map view_node es)
+pub nodes_above : (marks : Bool) (left lower i : ℕ) (vs : List Value) (es : List LayoutRenderingElement) → lower + 1 ≡ left → length vs ≤ i → AllZip (IsNode marks (AreNodes marks lower)) (map view (take i vs)) (map view_node es) → AreNodes marks left (map view vs) (map view_node es)
 unfolding AreNodes
-nodes_above left lower i vs es e all z =
+nodes_above marks left lower i vs es e all z =
     let next : suc lower ≡ left = omega (arith, e) in
     let whole : take i vs ≡ vs = take_all i vs all in
-    subst (λ k. AreNodes k (map view vs) (map view_node es)) next (subst (λ us. AllZip (IsNode (AreNodes lower)) (map view us) (map view_node es)) whole z)
+    subst (λ k. AreNodes marks k (map view vs) (map view_node es)) next (subst (λ us. AllZip (IsNode marks (AreNodes marks lower)) (map view us) (map view_node es)) whole z)

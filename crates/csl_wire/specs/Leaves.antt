@@ -1,7 +1,8 @@
 -- Which texts, numbers, labels and dates JSON objects are read as (CSL 1.0.2, Text, Number, Label,
 -- Date): each attribute from the member of its name. One that is absent has its default: the long
--- form, numeric, singular, contextual, without quotes, periods kept.
-use Rattle.std.specs.Prelude.{◌≡◌, ℕ, List, Bool, Option, Some, None, map, option_map, option_and_then, unwrap_or, codes, string_bytes}
+-- form, numeric, singular, contextual, without quotes, periods kept. A case is read as marks, if marks
+-- are wanted, but at a text that prints a link: its prefix may begin the address.
+use Rattle.std.specs.Prelude.{◌≡◌, ℕ, List, Bool, false, not, ◌&&◌, ◌||◌, Option, Some, None, map, option_map, option_and_then, unwrap_or, codes, string_bytes}
 use Rattle.std.specs.List.{AllZip}
 use Rattle.serde_json.specs.Data.{Data}
 use Rattle.serde_json.specs.Find.{as_str}
@@ -12,6 +13,11 @@ use Rattle.csl_common.specs.declared.form.NumberForm.TheVariants.{Numeric}
 use Rattle.csl_elements.specs.declared.date.DateForm.{DateForm}
 use Rattle.csl_elements.specs.declared.taxonomy.NumberOrPageVariable.{NumberOrPageVariable}
 use Rattle.csl_elements.specs.declared.taxonomy.Variable.{Variable}
+use Rattle.csl_elements.specs.declared.taxonomy.Variable.TheVariants as variables
+use Rattle.csl_elements.specs.declared.taxonomy.StandardVariable.{StandardVariable}
+use Rattle.csl_elements.specs.declared.taxonomy.StandardVariable.TheVariants as standards
+use Rattle.csl_elements.specs.contracts.taxonomy.StandardVariable.{the_type as the_standard}
+use denote.Enum.Bare.{sameb}
 use Rattle.csl_elements.specs.declared.term.Term.{Term}
 use Rattle.csl_elements.specs.declared.term.TermForm.{TermForm}
 use Rattle.csl_elements.specs.declared.text.Text.{Text}
@@ -23,7 +29,7 @@ use Rattle.csl_elements.specs.Node.{DateNode, NumberNode}
 use Rattle.csl_elements.specs.View.{text_dressing}
 use Rattle.csl_wire.specs.Reading.{lent, pair_by, member, read_choice, read_flag, read_items, read_list, read_member, read_one, value_named}
 use Rattle.csl_wire.specs.Named.{date_variable_has, number_or_page_has, term_has, variable_has}
-use Rattle.csl_wire.specs.Dressed.{read_affixes, read_display, read_formatting}
+use Rattle.csl_wire.specs.Dressed.{read_affixes, read_cased_affixes, read_display, read_formatting}
 use Rattle.csl_wire.specs.Parts.{read_date_part, read_label, read_term_form}
 use Rattle.csl_wire.specs.declared.choices.TheConstants as tables
 
@@ -72,12 +78,20 @@ read_dressing d = option_and_then (λ f. option_and_then (λ a. option_map (λ s
   display = s;
 }) (read_display d)) (read_affixes d)) (read_formatting d)
 
-abbrev pub read_text_dressing : Data → Option TextDressing
-read_text_dressing d = option_and_then (λ dressing. option_and_then (λ quotes. option_map (λ strip. record {
+-- the same of a node that may have a case
+abbrev pub read_cased_dressing : Bool → Data → Option Dressing
+read_cased_dressing marks d = option_and_then (λ f. option_and_then (λ a. option_map (λ s. record {
+  formatting = f;
+  affixes = a;
+  display = s;
+}) (read_display d)) (read_cased_affixes marks d)) (read_formatting d)
+
+abbrev pub read_text_dressing : Bool → Data → Option TextDressing
+read_text_dressing marks d = option_and_then (λ dressing. option_and_then (λ quotes. option_map (λ strip. record {
   dressing = dressing;
   quotes = quotes;
   strip_periods = strip;
-}) (read_flag (codes "strip-periods") d)) (read_flag (codes "quotes") d)) (read_dressing d)
+}) (read_flag (codes "strip-periods") d)) (read_flag (codes "quotes") d)) (read_cased_dressing marks d)
 
 abbrev read_long_or_short : Data → Option LongShortForm
 read_long_or_short d = option_map (λ o. unwrap_or o LongForm)
@@ -99,40 +113,57 @@ IsTarget d (target.Macro name) = read_one as_str (codes "macro") d ≡ Some (str
 IsTarget d (target.Term t form plural) = IsOfTerm d t form plural
 IsTarget d (target.Value words) = read_one as_str (codes "value") d ≡ Some (string_bytes words)
 
-pub record IsText (d : Data) (t : Text) : Type 0 where
+-- a text that prints a link (CSL 1.0.2, Appendix VI, Links)
+abbrev is_standard : StandardVariable → StandardVariable → Bool
+is_standard u v = sameb the_standard v u
+
+abbrev is_link_variable : Variable → Bool
+is_link_variable (variables.Standard v) = is_standard standards.DOI v || is_standard standards.PMCID v || is_standard standards.PMID v || is_standard standards.URL v
+is_link_variable (variables.Number v) = false
+is_link_variable (variables.Page v) = false
+is_link_variable (variables.Date v) = false
+is_link_variable (variables.Name v) = false
+
+abbrev pub is_link : TextTarget → Bool
+is_link (target.Variable v form) = is_link_variable v
+is_link (target.Macro name) = false
+is_link (target.Term t form plural) = false
+is_link (target.Value words) = false
+
+pub record IsText (marks : Bool) (d : Data) (t : Text) : Type 0 where
   pub target : IsTarget d t.target
-  pub dressing : read_text_dressing d ≡ Some (text_dressing t)
+  pub dressing : read_text_dressing (marks && not (is_link t.target)) d ≡ Some (text_dressing t)
 
 abbrev read_number_form : Data → Option NumberForm
 read_number_form d = option_map (λ o. unwrap_or o Numeric)
     (read_member (read_choice (map (pair_by lent) tables.NUMBER_FORMS)) (codes "form") d)
 
-pub record IsNumber (d : Data) (n : NumberNode) : Type 0 where
+pub record IsNumber (marks : Bool) (d : Data) (n : NumberNode) : Type 0 where
   pub variable : IsNamed number_or_page_has (codes "variable") d n.variable
   pub form : read_number_form d ≡ Some n.form
-  pub dressing : read_dressing d ≡ Some n.dressing
+  pub dressing : read_cased_dressing marks d ≡ Some n.dressing
 
-pub record IsLabel (d : Data) (v : NumberOrPageVariable) (l : LabelNode) : Type 0 where
+pub record IsLabel (marks : Bool) (d : Data) (v : NumberOrPageVariable) (l : LabelNode) : Type 0 where
   pub variable : IsNamed number_or_page_has (codes "variable") d v
-  pub label : read_label d ≡ Some l
+  pub label : read_label marks d ≡ Some l
 
 abbrev pub read_date_form : Data → Option (Option DateForm)
 read_date_form d = read_member (read_choice (map (pair_by lent) tables.DATE_FORMS)) (codes "form") d
 
 -- the parts of a date, without its variable and form
-pub record IsDateBody (d : Data) (n : DateNode) : Type 0 where
+pub record IsDateBody (marks : Bool) (d : Data) (n : DateNode) : Type 0 where
   pub parts : read_member (read_choice (map (pair_by lent) tables.DATE_PARTS)) (codes "date-parts") d ≡ Some n.parts
-  pub date_part : AreRead read_date_part (codes "date-part") d n.date_part
+  pub date_part : AreRead (read_date_part marks) (codes "date-part") d n.date_part
   pub delimiter : read_member as_str (codes "delimiter") d ≡ Some n.delimiter
   pub dressing : read_dressing d ≡ Some n.dressing
 
 -- a date of a style, and one of a locale, which has no variable
-pub record IsDate (d : Data) (n : DateNode) : Type 0 where
+pub record IsDate (marks : Bool) (d : Data) (n : DateNode) : Type 0 where
   pub variable : IsNamedIf date_variable_has (codes "variable") d n.variable
   pub form : read_date_form d ≡ Some n.form
-  pub body : IsDateBody d n
+  pub body : IsDateBody marks d n
 
-pub record IsLocalizedDate (d : Data) (n : DateNode) : Type 0 where
+pub record IsLocalizedDate (marks : Bool) (d : Data) (n : DateNode) : Type 0 where
   pub variable : n.variable ≡ None
   pub form : read_date_form d ≡ Some n.form
-  pub body : IsDateBody d n
+  pub body : IsDateBody marks d n

@@ -1,7 +1,7 @@
 -- Which options of names, and which children of names that hold no nodes, JSON objects are read as
 -- (CSL 1.0.2, Name Options; Name, Et-al): each from the member of its name. On `names`, layouts and
 -- styles form and delimiter have the members `name-form` and `name-delimiter`.
-use Rattle.std.specs.Prelude.{◌≡◌, ℕ, List, Option, Some, map, option_map, option_and_then, unwrap_or, codes}
+use Rattle.std.specs.Prelude.{◌≡◌, ℕ, List, Bool, Option, Some, map, option_map, option_and_then, unwrap_or, codes}
 use Rattle.serde_json.specs.Data.{Data}
 use Rattle.serde_json.specs.Find.{as_bool, as_str}
 use Rattle.csl_elements.specs.declared.term.OtherTerm.{OtherTerm}
@@ -32,10 +32,10 @@ pub record AreOptions (form_name delimiter_name : List ℕ) (d : Data) (o : Part
   pub separator : read_member as_str (codes "sort-separator") d ≡ Some o.sort_separator
   pub between_lists : read_member as_str (codes "names-delimiter") d ≡ Some o.names_delimiter
 
-pub record IsName (d : Data) (n : NameNode) : Type 0 where
+pub record IsName (marks : Bool) (d : Data) (n : NameNode) : Type 0 where
   pub options_ : AreOptions (codes "form") (codes "delimiter") d n.options
   pub formatting_ : read_formatting d ≡ Some n.formatting
-  pub parts_ : AreRead read_name_part (codes "name-part") d n.parts
+  pub parts_ : AreRead (read_name_part marks) (codes "name-part") d n.parts
 
 abbrev read_et_al_term : Data → Option OtherTerm
 read_et_al_term d = option_map (λ o. unwrap_or o EtAl)

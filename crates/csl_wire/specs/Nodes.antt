@@ -1,8 +1,8 @@
 -- Which nodes JSON values are read as (CSL 1.0.2, Rendering Elements). A node is an object of one
--- member: the name of its element, with its attributes. `AreNodes left` says so of a list of values
+-- member: the name of its element, with its attributes. `AreNodes marks left` says so of a list of values
 -- and a list of nodes, with at most `left` lists in one another; what it says of one node is by what
--- it says of the lists inside (`P`).
-use Rattle.std.specs.Prelude.{◌≡◌, ℕ, zero, suc, List, [], ◌∷◌, length, false, Option, Some, None, option_map, unwrap_or, map, codes}
+-- it says of the lists inside (`P`). `marks` is whether cases are read as marks in affixes.
+use Rattle.std.specs.Prelude.{◌≡◌, ℕ, Bool, zero, suc, List, [], ◌∷◌, length, false, Option, Some, None, option_map, unwrap_or, map, codes}
 use Rattle.std.specs.List.{AllZip}
 use Rattle.serde_json.specs.Data.{Data, Members, no_members, member as a_member}
 use Rattle.serde_json.specs.Find.{as_bool, as_object, as_str}
@@ -93,20 +93,20 @@ pub record IsChoose (P : List Data → List Node → Type 0) (d : Data) (bs : Br
   pub is : bs ≡ branches_of (first ∷ others) last
 
 -- a child of names
-abbrev pub IsChildOf : (List Data → List Node → Type 0) → List ℕ → Data → NamesChildView → Type 0
-IsChildOf P kind d (a_name n) = (kind ≡ codes "name") × IsName d n
-IsChildOf P kind d (an_et_al e) = (kind ≡ codes "et-al") × (read_et_al d ≡ Some e)
-IsChildOf P kind d (a_label l) = (kind ≡ codes "label") × (read_label d ≡ Some l)
-IsChildOf P kind d (a_substitute ns) = (kind ≡ codes "substitute") × IsListOf P d ns
+abbrev pub IsChildOf : Bool → (List Data → List Node → Type 0) → List ℕ → Data → NamesChildView → Type 0
+IsChildOf marks P kind d (a_name n) = (kind ≡ codes "name") × IsName marks d n
+IsChildOf marks P kind d (an_et_al e) = (kind ≡ codes "et-al") × (read_et_al d ≡ Some e)
+IsChildOf marks P kind d (a_label l) = (kind ≡ codes "label") × (read_label marks d ≡ Some l)
+IsChildOf marks P kind d (a_substitute ns) = (kind ≡ codes "substitute") × IsListOf P d ns
 
-pub record IsChild (P : List Data → List Node → Type 0) (d : Data) (c : NamesChildView) : Type 0 where
+pub record IsChild (marks : Bool) (P : List Data → List Node → Type 0) (d : Data) (c : NamesChildView) : Type 0 where
   pub kind : List ℕ
   pub inside : Data
   pub is : read_element d ≡ Some (kind, inside)
-  pub child : IsChildOf P kind inside c
+  pub child : IsChildOf marks P kind inside c
 
 -- Names, with their children in order.
-pub record IsNames (P : List Data → List Node → Type 0) (d : Data) (n : NamesNode) (ss : Substitutes) : Type 0 where
+pub record IsNames (marks : Bool) (P : List Data → List Node → Type 0) (d : Data) (n : NamesNode) (ss : Substitutes) : Type 0 where
   pub variables_ : AreNamed name_variable_has (codes "variable") d n.variables
   pub options_ : AreOptions (codes "name-form") (codes "name-delimiter") d n.options
   pub delimiter_ : read_member as_str (codes "delimiter") d ≡ Some n.delimiter
@@ -114,35 +114,35 @@ pub record IsNames (P : List Data → List Node → Type 0) (d : Data) (n : Name
   pub items : List Data
   pub are : read_list (codes "children") d ≡ Some items
   pub children : List NamesChildView
-  pub each : AllZip (IsChild P) items children
+  pub each : AllZip (IsChild marks P) items children
   pub name_children_ : n.name_children ≡ name_children children
   pub et_al_ : n.et_al ≡ first_et_al children
   pub label_ : n.label ≡ first_label false children
   pub child_count_ : n.child_count ≡ length children
   pub substitutes_ : ss ≡ substitutes children
 
-pub record IsTextNode (d : Data) (n : Node) : Type 0 where
+pub record IsTextNode (marks : Bool) (d : Data) (n : Node) : Type 0 where
   pub value : Text
-  pub is_read : IsText d value
+  pub is_read : IsText marks d value
   pub is : n ≡ view_text value
 
 -- the node of an element of this name
-abbrev pub IsNodeOf : (List Data → List Node → Type 0) → List ℕ → Data → Node → Type 0
-IsNodeOf P kind d (text t dr) = (kind ≡ codes "text") × IsTextNode d (text t dr)
-IsNodeOf P kind d (call name dr) = (kind ≡ codes "text") × IsTextNode d (call name dr)
-IsNodeOf P kind d (number n) = (kind ≡ codes "number") × IsNumber d n
-IsNodeOf P kind d (label v l) = (kind ≡ codes "label") × IsLabel d v l
-IsNodeOf P kind d (date n) = (kind ≡ codes "date") × IsDate d n
-IsNodeOf P kind d (names n ss) = (kind ≡ codes "names") × IsNames P d n ss
-IsNodeOf P kind d (choose bs) = (kind ≡ codes "choose") × IsChoose P d bs
-IsNodeOf P kind d (group delimiter dr ns) = (kind ≡ codes "group") × IsGroup P d delimiter dr ns
+abbrev pub IsNodeOf : Bool → (List Data → List Node → Type 0) → List ℕ → Data → Node → Type 0
+IsNodeOf marks P kind d (text t dr) = (kind ≡ codes "text") × IsTextNode marks d (text t dr)
+IsNodeOf marks P kind d (call name dr) = (kind ≡ codes "text") × IsTextNode marks d (call name dr)
+IsNodeOf marks P kind d (number n) = (kind ≡ codes "number") × IsNumber marks d n
+IsNodeOf marks P kind d (label v l) = (kind ≡ codes "label") × IsLabel marks d v l
+IsNodeOf marks P kind d (date n) = (kind ≡ codes "date") × IsDate marks d n
+IsNodeOf marks P kind d (names n ss) = (kind ≡ codes "names") × IsNames marks P d n ss
+IsNodeOf marks P kind d (choose bs) = (kind ≡ codes "choose") × IsChoose P d bs
+IsNodeOf marks P kind d (group delimiter dr ns) = (kind ≡ codes "group") × IsGroup P d delimiter dr ns
 
-pub record IsNode (P : List Data → List Node → Type 0) (d : Data) (n : Node) : Type 0 where
+pub record IsNode (marks : Bool) (P : List Data → List Node → Type 0) (d : Data) (n : Node) : Type 0 where
   pub kind : List ℕ
   pub inside : Data
   pub is : read_element d ≡ Some (kind, inside)
-  pub node : IsNodeOf P kind inside n
+  pub node : IsNodeOf marks P kind inside n
 
-unfoldable pub AreNodes : ℕ → List Data → List Node → Type 0
-AreNodes zero ds ns = ⊥
-AreNodes (suc left) ds ns = AllZip (IsNode (AreNodes left)) ds ns
+unfoldable pub AreNodes : Bool → ℕ → List Data → List Node → Type 0
+AreNodes marks zero ds ns = ⊥
+AreNodes marks (suc left) ds ns = AllZip (IsNode marks (AreNodes marks left)) ds ns

@@ -21,33 +21,33 @@ use Rattle.csl_wire.specs.Nodes.{AreNodes, AreNodesIn}
 use Rattle.csl_wire.specs.Reading.{lent, pair_by, member, read_choice, read_list, read_member, read_one}
 use Rattle.csl_wire.specs.declared.choices.TheConstants as tables
 
-pub record IsMacro (d : Data) (m : Definition) : Type 0 where
+pub record IsMacro (marks : Bool) (d : Data) (m : Definition) : Type 0 where
   pub name : read_one as_str (codes "name") d ≡ Some m.0
-  pub children : AreNodesIn (AreNodes 43) (codes "children") d m.1
+  pub children : AreNodesIn (AreNodes marks 43) (codes "children") d m.1
 
-pub record IsLayout (d : Data) (l : LayoutNode) : Type 0 where
+pub record IsLayout (marks : Bool) (d : Data) (l : LayoutNode) : Type 0 where
   pub delimiter_ : read_member as_str (codes "delimiter") d ≡ Some l.delimiter
   pub formatting_ : read_formatting d ≡ Some l.formatting
-  pub elements_ : AreNodesIn (AreNodes 43) (codes "children") d l.elements
+  pub elements_ : AreNodesIn (AreNodes marks 43) (codes "children") d l.elements
 
 -- the options of a layout
 abbrev pub AreLayoutOptions : Data → PartialOptions → Type 0
 AreLayoutOptions d o = AreOptions (codes "name-form") (codes "name-delimiter") d o
 
 -- a layout that may be absent, and its options
-abbrev pub IsLayoutIf : Option Data → Option LayoutNode → PartialOptions → Type 0
-IsLayoutIf None None o = o ≡ no_options
-IsLayoutIf None (Some l) o = ⊥
-IsLayoutIf (Some d) None o = ⊥
-IsLayoutIf (Some d) (Some l) o = IsLayout d l × AreLayoutOptions d o
+abbrev pub IsLayoutIf : Bool → Option Data → Option LayoutNode → PartialOptions → Type 0
+IsLayoutIf marks None None o = o ≡ no_options
+IsLayoutIf marks None (Some l) o = ⊥
+IsLayoutIf marks (Some d) None o = ⊥
+IsLayoutIf marks (Some d) (Some l) o = IsLayout marks d l × AreLayoutOptions d o
 
 abbrev empty_layout : LayoutNode
 empty_layout = record { delimiter = None; formatting = no_formatting; elements = no_nodes }
 
 -- the layout of the citation, which is empty if it is absent, and its options
-abbrev pub IsCitation : Option Data → LayoutNode → PartialOptions → Type 0
-IsCitation None l o = (l ≡ empty_layout) × (o ≡ no_options)
-IsCitation (Some d) l o = IsLayout d l × AreLayoutOptions d o
+abbrev pub IsCitation : Bool → Option Data → LayoutNode → PartialOptions → Type 0
+IsCitation marks None l o = (l ≡ empty_layout) × (o ≡ no_options)
+IsCitation marks (Some d) l o = IsLayout marks d l × AreLayoutOptions d o
 
 abbrev read_demotion : Data → Option DemoteNonDroppingParticle
 read_demotion d = option_map (λ o. unwrap_or o DisplayAndSort)
@@ -63,11 +63,11 @@ pub record AreSettings (d : Data) (format : Option PageRangeFormat) (demotion : 
   pub hyphens_ : read_hyphens d ≡ Some hyphens
   pub names_ : AreLayoutOptions d names
 
--- what a style is read as, but its locales
-pub record IsStyle (d : Data) (settings : StyleSettings) (macros : List CslMacro) (citation : Layout) (bibliography : Option Layout) : Type 0 where
+-- what a style is read as, but its locales, with marks of cases or without
+pub record IsStyle (marks : Bool) (d : Data) (settings : StyleSettings) (macros : List CslMacro) (citation : Layout) (bibliography : Option Layout) : Type 0 where
   pub settings_ : AreSettings d settings.page_range_format settings.demote_non_dropping_particle settings.initialize_with_hyphen (partial_options settings.names)
   pub items : List Data
   pub are : read_list (codes "macros") d ≡ Some items
-  pub macros_ : AllZip IsMacro items (definitions macros)
-  pub citation_ : IsCitation (member (codes "citation") d) (view_layout citation) (partial_options settings.citation_names)
-  pub bibliography_ : IsLayoutIf (member (codes "bibliography") d) (option_map view_layout bibliography) (partial_options settings.bibliography_names)
+  pub macros_ : AllZip (IsMacro marks) items (definitions macros)
+  pub citation_ : IsCitation marks (member (codes "citation") d) (view_layout citation) (partial_options settings.citation_names)
+  pub bibliography_ : IsLayoutIf marks (member (codes "bibliography") d) (option_map view_layout bibliography) (partial_options settings.bibliography_names)

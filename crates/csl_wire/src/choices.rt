@@ -6,6 +6,7 @@ use csl_elements::{
     NameAsSortOrder, NameForm, NamePartName, NumberForm, OrdinalMatch, TermForm, TestPosition,
     TextDecoration, VerticalAlign,
 };
+use csl_finish::TextCase;
 use csl_style::{DemoteNonDroppingParticle, PageRangeFormat};
 
 /// Font styles (CSL 1.0.2, Formatting).
@@ -39,6 +40,16 @@ pub(crate) static VERTICAL_ALIGNS: [(&str, VerticalAlign); 4] = [
     ("baseline", VerticalAlign::Baseline),
     ("sup", VerticalAlign::Sup),
     ("sub", VerticalAlign::Sub),
+];
+
+/// Cases of texts (CSL 1.0.2, Text-case).
+pub(crate) static TEXT_CASES: [(&str, TextCase); 6] = [
+    ("lowercase", TextCase::Lowercase),
+    ("uppercase", TextCase::Uppercase),
+    ("capitalize-first", TextCase::CapitalizeFirst),
+    ("capitalize-all", TextCase::CapitalizeAll),
+    ("title", TextCase::TitleCase),
+    ("sentence", TextCase::SentenceCase),
 ];
 
 /// Places on the page (CSL 1.0.2, Display).

@@ -8,7 +8,9 @@ ghost use Rattle.csl_wire.specs.Parts.{read_date_part};
 ghost use Rattle.csl_wire.specs.Leaves.{IsDate, IsDateBody, IsLocalizedDate};
 
 use crate::choices::{DATE_FORMS, DATE_PART_FORMS, DATE_PART_NAMES, DATE_PARTS};
-use crate::dress::{AFFIXES, FORMATTING, affixes, display, formatting};
+use crate::dress::{
+    AFFIXES, CASED_AFFIXES, FORMATTING, affixes, cased_affixes, display, formatting,
+};
 use crate::form::Form;
 use crate::limits::Reader;
 use crate::refusal::{Step, WireError, within};
@@ -20,21 +22,21 @@ static DATE_PART: [&str; 3] = ["name", "form", "strip-periods"];
 
 /// A part of a date.
 fn date_part(reader: Reader, value: &Value) -> Result<DatePart, WireError>
-    ensures { IfOk result (λ p. read_date_part (view value.now) ≡ Some (view_date_part p)) }
+    ensures { IfOk result (λ p. read_date_part reader.marks (view value.now) ≡ Some (view_date_part p)) }
 {
-    let form = Form::of(reader, value, &[&DATE_PART, &FORMATTING, &AFFIXES])?;
+    let form = Form::of(reader, value, &[&DATE_PART, &FORMATTING, &CASED_AFFIXES])?;
     Ok(DatePart {
         name: form.one_choice("name", &DATE_PART_NAMES)?,
         form: form.choice("form", &DATE_PART_FORMS)?,
         formatting: formatting(form)?,
         strip_periods: form.is_true("strip-periods")?,
-        affixes: affixes(form)?,
+        affixes: cased_affixes(form, reader.marks)?,
     })
 }
 
 /// The parts of a date.
 fn date_parts(reader: Reader, items: &[Value]) -> Result<Vec<DatePart>, WireError>
-    ensures { IfOk result (λ parts. map read_date_part (map view items.now)
+    ensures { IfOk result (λ parts. map (read_date_part reader.marks) (map view items.now)
         ≡ map Some (map view_date_part parts.items)) }
 {
     let mut parts = Vec::with_capacity(reader.alloc, items.len())?;
@@ -50,7 +52,8 @@ fn date_of(
     variable: Option<DateVariable>,
     date_form: Option<DateForm>,
 ) -> Result<Date, WireError>
-    ensures body { IfOk result (λ r. IsDateBody (view form.entry.value.now) (view_date r)) }
+    ensures body { IfOk result (λ r. IsDateBody form.entry.reader.marks
+        (view form.entry.value.now) (view_date r)) }
     ensures variable { IfOk result (λ r. r.variable ≡ variable) }
     ensures form { IfOk result (λ r. r.form ≡ date_form) }
 {
@@ -85,7 +88,7 @@ static DATE: [&str; 6] = [
 
 /// A date of a style. It has a variable.
 pub(crate) fn date(reader: Reader, value: &Value) -> Result<Date, WireError>
-    ensures { IfOk result (λ r. IsDate (view value.now) (view_date r)) }
+    ensures { IfOk result (λ r. IsDate reader.marks (view value.now) (view_date r)) }
 {
     let form = Form::of(reader, value, &[&DATE, &FORMATTING, &AFFIXES])?;
     let variable = form.one_named("variable")?;
@@ -99,7 +102,7 @@ static LOCALIZED_DATE: [&str; 3] = ["form", "date-part", "delimiter"];
 
 /// A date of a locale. It has a form.
 pub(crate) fn localized_date(reader: Reader, value: &Value) -> Result<Date, WireError>
-    ensures { IfOk result (λ r. IsLocalizedDate (view value.now) (view_date r)) }
+    ensures { IfOk result (λ r. IsLocalizedDate reader.marks (view value.now) (view_date r)) }
 {
     let form = Form::of(reader, value, &[&LOCALIZED_DATE, &FORMATTING, &AFFIXES])?;
     let date_form = form.one_choice("form", &DATE_FORMS)?;

@@ -1,12 +1,13 @@
 //! An object of JSON, whose members are read by their names.
 //! Definitions: specs/Leaves.antt, specs/Nodes.antt, specs/Reading.antt.
 
-ghost use Rattle.std.specs.Prelude.{◌≡◌, ◌≤◌, Some, map, IfOk, IfSome, length, option_map, string_bytes, unwrap_or, false};
+ghost use Rattle.std.specs.Prelude.{◌≡◌, ◌≤◌, Some, map, IfOk, OnOk, IfSome, length, option_map, string_bytes, unwrap_or, false};
 ghost use Rattle.serde_json.specs.Find.{as_bool, as_object, as_str};
 ghost use Rattle.serde_json.specs.View.{members_view, view};
 ghost use Rattle.csl_elements.specs.Dressing.{text_if};
 ghost use Rattle.csl_wire.specs.Reading.{borrowed, pair_by, value_named, read_choice, read_items, read_list, read_member, read_number, read_one};
 ghost use Rattle.csl_wire.specs.Reading as spec;
+ghost use Rattle.csl_finish.specs.CaseMarks.{has_mark};
 ghost use Rattle.csl_wire.specs.Leaves.{has_choice, AreNamedIf, IsNamed, IsNamedIf, IsWordOf};
 ghost use Rattle.csl_wire.specs.Nodes.{read_element};
 ghost use Rattle.std.specs.List.{AllZip};
@@ -15,6 +16,7 @@ use crate::limits::Reader;
 use crate::named::Named;
 use crate::nearest::{unknown, unknown_among};
 use crate::refusal::{Code, Step, WireError, within};
+use csl_finish::is_case_mark;
 use serde_json::{Map, Value};
 
 /// An object, as the attributes and children of an element.
@@ -111,15 +113,33 @@ pub fn word_of(reader: Reader, value: &Value) -> Result<&str, WireError>
     }
 }
 
-/// The text that a value is, within the limits.
-pub fn text_of(reader: Reader, value: &Value) -> Result<String, WireError>
-    ensures read { IfOk result (λ t. as_str (view value.now) ≡ Some (string_bytes t)) }
-    ensures short { IfOk result (λ t. length (string_bytes t) ≤ reader.limits.text) }
+/// Refuses a text that is longer than the limits allow, or has a character that may be a mark of a
+/// case.
+pub fn check_text(reader: Reader, text: &str) -> Result<(), WireError>
+    ensures short { OnOk result (length text.now ≤ reader.limits.text) }
+    ensures unmarked { OnOk result (has_mark text.now ≡ false) }
 {
-    let text = word_of(reader, value)?;
     if text.len() > reader.limits.text {
         return Err(WireError::of(reader.alloc, Code::TooLong, "the text is too long"));
     }
+    if text.chars().any(|it| is_case_mark(it)) {
+        return Err(WireError::of(
+            reader.alloc,
+            Code::ReservedCharacter,
+            "a character from U+FDD0 to U+FDEF, which are for a program's own use",
+        ));
+    }
+    Ok(())
+}
+
+/// The text that a value is, within the limits, without a character that may be a mark of a case.
+pub fn text_of(reader: Reader, value: &Value) -> Result<String, WireError>
+    ensures read { IfOk result (λ t. as_str (view value.now) ≡ Some (string_bytes t)) }
+    ensures short { IfOk result (λ t. length (string_bytes t) ≤ reader.limits.text) }
+    ensures unmarked { IfOk result (λ t. has_mark (string_bytes t) ≡ false) }
+{
+    let text = word_of(reader, value)?;
+    check_text(reader, text)?;
     Ok(String::from_str(reader.alloc, text)?)
 }
 
@@ -233,7 +253,8 @@ pub(crate) fn element_of(reader: Reader, value: &Value) -> Result<(&str, &Value)
 impl<'v> Form<'v> {
     /// The object that a value is, with any members.
     pub(crate) fn of_any(reader: Reader, value: &'v Value) -> Result<Form<'v>, WireError>
-        ensures { IfOk result (λ form. form.value.now ≡ value.now) }
+        ensures value { IfOk result (λ form. form.value.now ≡ value.now) }
+        ensures reader { IfOk result (λ form. form.reader ≡ reader) }
     {
         members_of(reader, value)?;
         Ok(Form { reader, value })
@@ -242,7 +263,8 @@ impl<'v> Form<'v> {
     /// The object that a value is. Each of its members that is not `null` has a name in one of the
     /// lists.
     pub fn of(reader: Reader, value: &'v Value, known: &[&[&str]]) -> Result<Form<'v>, WireError>
-        ensures { IfOk result (λ form. form.value.now ≡ value.now) }
+        ensures value { IfOk result (λ form. form.value.now ≡ value.now) }
+        ensures reader { IfOk result (λ form. form.reader ≡ reader) }
     {
         let members = members_of(reader, value)?;
         for (name, inside) in members.iter() {

@@ -7,15 +7,16 @@ ghost use Rattle.csl_elements.specs.Names.{view_label};
 ghost use Rattle.csl_elements.specs.View.{view_number};
 ghost use Rattle.csl_wire.specs.Parts.{read_label};
 ghost use Rattle.csl_wire.specs.Leaves.{IsLabel, IsNumber, IsTarget, IsText};
+ghost use Rattle.csl_wire.specs.Leaves as spec;
 
 use crate::choices::{LONG_SHORT_FORMS, NUMBER_FORMS, PLURALS, TERM_FORMS};
-use crate::dress::{AFFIXES, FORMATTING, affixes, display, formatting};
+use crate::dress::{CASED_AFFIXES, FORMATTING, cased_affixes, display, formatting};
 use crate::form::Form;
 use crate::limits::Reader;
 use crate::refusal::{Code, WireError};
 use csl_elements::{
-    Label, LabelPluralize, LongShortForm, Number, NumberForm, TermForm, Text, TextTarget,
-    VariablelessLabel,
+    Label, LabelPluralize, LongShortForm, Number, NumberForm, StandardVariable, TermForm, Text,
+    TextTarget, Variable, VariablelessLabel,
 };
 use serde_json::Value;
 
@@ -98,22 +99,40 @@ fn text_target(form: Form<'_>, source: Source) -> Result<TextTarget, WireError>
     }
 }
 
+/// Whether a text prints a link (CSL 1.0.2, Appendix VI: Links). Its prefix may begin the address.
+fn is_link(target: &TextTarget) -> bool
+    ensures { result ≡ spec.is_link target.now }
+{
+    match target {
+        TextTarget::Variable {
+            var: Variable::Standard(variable),
+            ..
+        } => {
+            *variable == StandardVariable::DOI
+                || *variable == StandardVariable::PMCID
+                || *variable == StandardVariable::PMID
+                || *variable == StandardVariable::URL
+        }
+        _ => false,
+    }
+}
+
 /// The members that all texts have, but formatting and affixes.
 static TEXT: [&str; 3] = ["quotes", "strip-periods", "display"];
 
 /// A text.
 pub(crate) fn text(reader: Reader, value: &Value) -> Result<Text, WireError>
-    ensures { IfOk result (IsText (view value.now)) }
+    ensures { IfOk result (IsText reader.marks (view value.now)) }
 {
     let source = source_of(Form::of_any(reader, value)?)?;
-    let known: [&[&str]; 4] = [source.members(), &TEXT, &FORMATTING, &AFFIXES];
+    let known: [&[&str]; 4] = [source.members(), &TEXT, &FORMATTING, &CASED_AFFIXES];
     let form = Form::of(reader, value, &known)?;
     let formatting = formatting(form)?;
     let display = display(form)?;
     let quotes = form.is_true("quotes")?;
     let strip_periods = form.is_true("strip-periods")?;
-    let affixes = affixes(form)?;
     let target = text_target(form, source)?;
+    let affixes = cased_affixes(form, reader.marks && !is_link(&target))?;
     Ok(Text {
         target,
         formatting,
@@ -129,9 +148,9 @@ static NUMBER: [&str; 3] = ["variable", "form", "display"];
 
 /// A number.
 pub(crate) fn number(reader: Reader, value: &Value) -> Result<Number, WireError>
-    ensures { IfOk result (λ n. IsNumber (view value.now) (view_number n)) }
+    ensures { IfOk result (λ n. IsNumber reader.marks (view value.now) (view_number n)) }
 {
-    let form = Form::of(reader, value, &[&NUMBER, &FORMATTING, &AFFIXES])?;
+    let form = Form::of(reader, value, &[&NUMBER, &FORMATTING, &CASED_AFFIXES])?;
     Ok(Number {
         variable: form.one_named("variable")?,
         form: form
@@ -139,7 +158,7 @@ pub(crate) fn number(reader: Reader, value: &Value) -> Result<Number, WireError>
             .unwrap_or(NumberForm::Numeric),
         formatting: formatting(form)?,
         display: display(form)?,
-        affixes: affixes(form)?,
+        affixes: cased_affixes(form, reader.marks)?,
     })
 }
 
@@ -148,7 +167,8 @@ static LABEL: [&str; 3] = ["form", "plural", "strip-periods"];
 
 /// The label of these members, without its variable.
 fn label_of(form: Form<'_>) -> Result<VariablelessLabel, WireError>
-    ensures { IfOk result (λ l. read_label (view form.entry.value.now) ≡ Some (view_label l)) }
+    ensures { IfOk result (λ l. read_label form.entry.reader.marks (view form.entry.value.now)
+        ≡ Some (view_label l)) }
 {
     Ok(VariablelessLabel {
         form: form.choice("form", &TERM_FORMS)?.unwrap_or(TermForm::Long),
@@ -157,7 +177,7 @@ fn label_of(form: Form<'_>) -> Result<VariablelessLabel, WireError>
             .unwrap_or(LabelPluralize::Contextual),
         formatting: formatting(form)?,
         strip_periods: form.is_true("strip-periods")?,
-        affixes: affixes(form)?,
+        affixes: cased_affixes(form, form.reader.marks)?,
     })
 }
 
@@ -166,9 +186,9 @@ pub(crate) fn variableless_label(
     reader: Reader,
     value: &Value,
 ) -> Result<VariablelessLabel, WireError>
-    ensures { IfOk result (λ l. read_label (view value.now) ≡ Some (view_label l)) }
+    ensures { IfOk result (λ l. read_label reader.marks (view value.now) ≡ Some (view_label l)) }
 {
-    label_of(Form::of(reader, value, &[&LABEL, &FORMATTING, &AFFIXES])?)
+    label_of(Form::of(reader, value, &[&LABEL, &FORMATTING, &CASED_AFFIXES])?)
 }
 
 /// The member for the variable of a label.
@@ -176,9 +196,14 @@ static VARIABLE: [&str; 1] = ["variable"];
 
 /// A label.
 pub(crate) fn label(reader: Reader, value: &Value) -> Result<Label, WireError>
-    ensures { IfOk result (λ l. IsLabel (view value.now) l.variable (view_label l.label)) }
+    ensures { IfOk result (λ l. IsLabel reader.marks (view value.now) l.variable
+        (view_label l.label)) }
 {
-    let form = Form::of(reader, value, &[&VARIABLE, &LABEL, &FORMATTING, &AFFIXES])?;
+    let form = Form::of(
+        reader,
+        value,
+        &[&VARIABLE, &LABEL, &FORMATTING, &CASED_AFFIXES],
+    )?;
     Ok(Label {
         variable: form.one_named("variable")?,
         label: label_of(form)?,

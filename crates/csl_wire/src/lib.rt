@@ -23,11 +23,11 @@ mod nodes;
 mod refusal;
 mod styles;
 
-pub use form::{Form, chosen, items_of, members_of, text_of, word_of};
+pub use form::{Form, check_text, chosen, items_of, members_of, text_of, word_of};
 pub use json::value_of_text;
 pub use limits::{Limits, Reader};
 pub use locales::locale_of;
 pub use named::Named;
 pub use nodes::nodes_of;
 pub use refusal::{Code, Refusal, Step, WireError, within};
-pub use styles::style_of;
+pub use styles::{marked_style_of, style_of};

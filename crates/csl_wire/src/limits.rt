@@ -35,4 +35,6 @@ pub struct Reader {
     pub alloc: Global,
     /// How much is read.
     pub limits: Limits,
+    /// Whether the text case of a node is read as marks in its affixes, for `csl_finish`.
+    pub marks: bool,
 }

@@ -135,10 +135,15 @@ pub(crate) const NO_OPTIONS: LocaleOptions = LocaleOptions {
     limit_day_ordinals_to_day_1: false,
 };
 
-/// A locale. An option that it does not set is false.
+/// A locale, without the marks of cases. An option that it does not set is false.
 ///
 /// # Errors
 /// [`WireError::Refused`]: the value is no locale within the limits.
 pub fn locale_of(alloc: Global, value: &Value, limits: Limits) -> Result<Locale, WireError> {
-    locale(Reader { alloc, limits }, value, NO_OPTIONS)
+    let reader = Reader {
+        alloc,
+        limits,
+        marks: false,
+    };
+    locale(reader, value, NO_OPTIONS)
 }

@@ -8,7 +8,7 @@ ghost use Rattle.csl_wire.specs.Names.{read_et_al, IsName};
 ghost use Rattle.csl_wire.specs.Parts.{read_name_part};
 
 use crate::choices::NAME_PART_NAMES;
-use crate::dress::{AFFIXES, FORMATTING, affixes, formatting};
+use crate::dress::{CASED_AFFIXES, FORMATTING, cased_affixes, formatting};
 use crate::form::Form;
 use crate::limits::Reader;
 use crate::name_options::{NAME_OPTIONS, name_options};
@@ -21,19 +21,19 @@ static NAME_PART: [&str; 1] = ["name"];
 
 /// A part of a name.
 fn name_part(reader: Reader, value: &Value) -> Result<NamePart, WireError>
-    ensures { IfOk result (λ p. read_name_part (view value.now) ≡ Some (view_part p)) }
+    ensures { IfOk result (λ p. read_name_part reader.marks (view value.now) ≡ Some (view_part p)) }
 {
-    let form = Form::of(reader, value, &[&NAME_PART, &FORMATTING, &AFFIXES])?;
+    let form = Form::of(reader, value, &[&NAME_PART, &FORMATTING, &CASED_AFFIXES])?;
     Ok(NamePart {
         name: form.one_choice("name", &NAME_PART_NAMES)?,
         formatting: formatting(form)?,
-        affixes: affixes(form)?,
+        affixes: cased_affixes(form, reader.marks)?,
     })
 }
 
 /// The parts of a name.
 fn name_parts(reader: Reader, items: &[Value]) -> Result<Vec<NamePart>, WireError>
-    ensures { IfOk result (λ parts. map read_name_part (map view items.now)
+    ensures { IfOk result (λ parts. map (read_name_part reader.marks) (map view items.now)
         ≡ map Some (map view_part parts.items)) }
 {
     let mut parts = Vec::with_capacity(reader.alloc, items.len())?;
@@ -48,7 +48,7 @@ static NAME: [&str; 3] = ["form", "delimiter", "name-part"];
 
 /// A name.
 pub(crate) fn name(reader: Reader, value: &Value) -> Result<Name, WireError>
-    ensures { IfOk result (λ n. IsName (view value.now) (view_name n)) }
+    ensures { IfOk result (λ n. IsName reader.marks (view value.now) (view_name n)) }
 {
     let form = Form::of(reader, value, &[&NAME, &NAME_OPTIONS, &FORMATTING])?;
     let formatting = formatting(form)?;

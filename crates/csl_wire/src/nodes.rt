@@ -1,6 +1,6 @@
 //! The nodes of a style (CSL 1.0.2, Rendering Elements).
 
-ghost use Rattle.std.specs.Prelude.{◌≡◌, ◌+◌, IfOk, codes, map, option_map};
+ghost use Rattle.std.specs.Prelude.{◌≡◌, ◌+◌, false, IfOk, codes, map, option_map};
 ghost use Rattle.std.specs.List.{AllZip};
 ghost use Rattle.serde_json.specs.View.{view};
 ghost use Rattle.csl_elements.specs.View.{view_branch, view_child, view_choose, view_group, view_names, view_node, view_nodes};
@@ -43,7 +43,7 @@ static GROUP: [&str; 3] = ["delimiter", "display", "children"];
 #[cycle(node)]
 #[tactic(auto, using(crate::proofs::NodesRead::group_read))]
 fn group(reader: Reader, value: &Value, left: u8) -> Result<Group, WireError>
-    ensures { IfOk result (λ g. IsNodeOf (AreNodes left) (codes "group") (view value.now) (view_group g)) }
+    ensures { IfOk result (λ g. IsNodeOf reader.marks (AreNodes reader.marks left) (codes "group") (view value.now) (view_group g)) }
 {
     let form = Form::of(reader, value, &[&GROUP, &FORMATTING, &AFFIXES])?;
     let formatting = formatting(form)?;
@@ -68,7 +68,7 @@ static CHILDREN: [&str; 4] = ["name", "et-al", "label", "substitute"];
 #[cycle(node)]
 #[tactic(auto, using(crate::proofs::NodesRead::substitute_child, crate::proofs::NodesRead::name_child, crate::proofs::NodesRead::label_child))]
 fn child(reader: Reader, value: &Value, left: u8) -> Result<NamesChild, WireError>
-    ensures { IfOk result (λ c. IsChild (AreNodes left) (view value.now) (view_child c)) }
+    ensures { IfOk result (λ c. IsChild reader.marks (AreNodes reader.marks left) (view value.now) (view_child c)) }
 {
     let (kind, inside) = element_of(reader, value)?;
     match kind {
@@ -95,7 +95,7 @@ fn child(reader: Reader, value: &Value, left: u8) -> Result<NamesChild, WireErro
 #[cycle(node)]
 #[tactic(auto, using(crate::proofs::Lists::zip_more_made))]
 fn children(reader: Reader, items: &[Value], left: u8) -> Result<Vec<NamesChild>, WireError>
-    ensures { IfOk result (λ cs. AllZip (IsChild (AreNodes left)) (map view items.now)
+    ensures { IfOk result (λ cs. AllZip (IsChild reader.marks (AreNodes reader.marks left)) (map view items.now)
         (map view_child cs.items)) }
 {
     let mut children = Vec::with_capacity(reader.alloc, items.len())?;
@@ -119,7 +119,7 @@ static NAMES: [&str; 6] = [
 #[cycle(node)]
 #[tactic(auto, using(crate::proofs::NodesRead::names_read))]
 fn names(reader: Reader, value: &Value, left: u8) -> Result<Names, WireError>
-    ensures { IfOk result (λ n. IsNodeOf (AreNodes left) (codes "names") (view value.now) (view_names n)) }
+    ensures { IfOk result (λ n. IsNodeOf reader.marks (AreNodes reader.marks left) (codes "names") (view value.now) (view_names n)) }
 {
     let form = Form::of(
         reader,
@@ -163,7 +163,7 @@ static BRANCH: [&str; 9] = [
 /// A branch of a choice.
 #[cycle(node)]
 fn branch(reader: Reader, value: &Value, left: u8) -> Result<ChooseBranch, WireError>
-    ensures { IfOk result (λ b. IsBranch (AreNodes left) (view value.now) (view_branch b)) }
+    ensures { IfOk result (λ b. IsBranch (AreNodes reader.marks left) (view value.now) (view_branch b)) }
 {
     let form = Form::of(reader, value, &[&BRANCH])?;
     let disambiguate = form.boolean("disambiguate")?;
@@ -193,7 +193,7 @@ fn branch(reader: Reader, value: &Value, left: u8) -> Result<ChooseBranch, WireE
 #[cycle(node)]
 #[tactic(auto, using(crate::proofs::Lists::zip_more_made))]
 fn branches(reader: Reader, items: &[Value], left: u8) -> Result<Vec<ChooseBranch>, WireError>
-    ensures { IfOk result (λ bs. AllZip (IsBranch (AreNodes left)) (map view items.now)
+    ensures { IfOk result (λ bs. AllZip (IsBranch (AreNodes reader.marks left)) (map view items.now)
         (map view_branch bs.items)) }
 {
     let mut branches = Vec::with_capacity(reader.alloc, items.len())?;
@@ -210,7 +210,7 @@ fn nodes_if(
     name: &'static str,
     left: u8,
 ) -> Result<Option<Vec<LayoutRenderingElement>>, WireError>
-    ensures { IfOk result (λ o. AreNodesIf (AreNodes left) name.now (view form.entry.value.now)
+    ensures { IfOk result (λ o. AreNodesIf (AreNodes form.entry.reader.marks left) name.now (view form.entry.value.now)
         (option_map (λ ns. view_nodes ns.items) o)) }
 {
     match form.member(name) {
@@ -229,7 +229,7 @@ static CHOOSE: [&str; 3] = ["if", "else-if", "else"];
 /// A choice.
 #[cycle(node)]
 fn choose(reader: Reader, value: &Value, left: u8) -> Result<Choose, WireError>
-    ensures { IfOk result (λ c. IsNodeOf (AreNodes left) (codes "choose") (view value.now) (view_choose c)) }
+    ensures { IfOk result (λ c. IsNodeOf reader.marks (AreNodes reader.marks left) (codes "choose") (view value.now) (view_choose c)) }
 {
     let form = Form::of(reader, value, &[&CHOOSE])?;
     let Some(first) = form.member("if") else {
@@ -255,7 +255,7 @@ static ELEMENTS: [&str; 7] = [
 #[cycle(node)]
 #[tactic(auto, using(crate::proofs::NodesRead::group_node, crate::proofs::NodesRead::names_node, crate::proofs::NodesRead::choose_node))]
 fn node(reader: Reader, value: &Value, left: u8) -> Result<LayoutRenderingElement, WireError>
-    ensures { IfOk result (λ n. IsNode (AreNodes left) (view value.now) (view_node n)) }
+    ensures { IfOk result (λ n. IsNode reader.marks (AreNodes reader.marks left) (view value.now) (view_node n)) }
 {
     let (kind, inside) = element_of(reader, value)?;
     match kind {
@@ -284,7 +284,7 @@ fn nodes(
     items: &[Value],
     left: u8,
 ) -> Result<Vec<LayoutRenderingElement>, WireError>
-    ensures { IfOk result (λ ns. AreNodes left (map view items.now) (map view_node ns.items)) }
+    ensures { IfOk result (λ ns. AreNodes reader.marks left (map view items.now) (map view_node ns.items)) }
 {
     let lower = below(reader, left)?;
     let mut nodes = Vec::with_capacity(reader.alloc, items.len())?;
@@ -296,14 +296,14 @@ fn nodes(
 
 /// The nodes of the member `children`. There are none if there is no such member.
 pub(crate) fn children_of(form: Form<'_>) -> Result<Vec<LayoutRenderingElement>, WireError>
-    ensures { IfOk result (λ ns. AreNodesIn (AreNodes 43) (codes "children")
+    ensures { IfOk result (λ ns. AreNodesIn (AreNodes form.entry.reader.marks 43) (codes "children")
         (view form.entry.value.now) (view_nodes ns.items)) }
 {
     let items = form.items("children")?;
     within(Step::Member("children"), nodes(form.reader, items, DEPTH))
 }
 
-/// The nodes of a list.
+/// The nodes of a list, without the marks of cases.
 ///
 /// # Errors
 /// [`WireError::Refused`]: the value is no list of nodes within the limits.
@@ -312,8 +312,12 @@ pub fn nodes_of(
     value: &Value,
     limits: Limits,
 ) -> Result<Vec<LayoutRenderingElement>, WireError>
-    ensures { IfOk result (λ ns. IsListOf (AreNodes 43) (view value.now) (view_nodes ns.items)) }
+    ensures { IfOk result (λ ns. IsListOf (AreNodes false 43) (view value.now) (view_nodes ns.items)) }
 {
-    let reader = Reader { alloc, limits };
+    let reader = Reader {
+        alloc,
+        limits,
+        marks: false,
+    };
     nodes(reader, items_of(reader, value)?, DEPTH)
 }

@@ -54,6 +54,8 @@ pub enum Code {
     OutOfRange,
     /// A text is longer than [`Limits`](crate::Limits) allow.
     TooLong,
+    /// A text has a character from U+FDD0 to U+FDEF, which are for a program's own use.
+    ReservedCharacter,
     /// Nodes stand too deep in one another.
     TooDeep,
     /// A macro leads back to itself.
@@ -79,6 +81,7 @@ impl Code {
             Code::UnknownName => "unknown-name",
             Code::OutOfRange => "out-of-range",
             Code::TooLong => "too-long",
+            Code::ReservedCharacter => "reserved-character",
             Code::TooDeep => "too-deep",
             Code::CyclicMacro => "cyclic-macro",
             Code::Unsupported => "unsupported",

@@ -1,6 +1,6 @@
 //! Styles: settings, macros, layouts and locales (CSL 1.0.2, Style Structure).
 
-ghost use Rattle.std.specs.Prelude.{IfOk, codes, map, option_map};
+ghost use Rattle.std.specs.Prelude.{IfOk, false, true, codes, map, option_map};
 ghost use Rattle.std.specs.List.{AllZip};
 ghost use Rattle.serde_json.specs.View.{view};
 ghost use Rattle.csl_elements.specs.NamesOptions.{partial_options};
@@ -28,7 +28,7 @@ static MACRO: [&str; 2] = ["name", "children"];
 
 /// A macro.
 fn macro_of(reader: Reader, value: &Value) -> Result<CslMacro, WireError>
-    ensures { IfOk result (λ m. IsMacro (view value.now) (definition m)) }
+    ensures { IfOk result (λ m. IsMacro reader.marks (view value.now) (definition m)) }
 {
     let form = Form::of(reader, value, &[&MACRO])?;
     let name = form.one_text("name")?;
@@ -39,7 +39,7 @@ fn macro_of(reader: Reader, value: &Value) -> Result<CslMacro, WireError>
 /// The macros of a list.
 #[tactic(auto, using(crate::proofs::Lists::zip_more_made))]
 fn macros(reader: Reader, items: &[Value]) -> Result<Vec<CslMacro>, WireError>
-    ensures { IfOk result (λ ms. AllZip IsMacro (map view items.now) (definitions ms.items)) }
+    ensures { IfOk result (λ ms. AllZip (IsMacro reader.marks) (map view items.now) (definitions ms.items)) }
 {
     let mut macros = Vec::with_capacity(reader.alloc, items.len())?;
     for (place, item) in items.iter().enumerate() {
@@ -60,7 +60,7 @@ static LAYOUT: [&str; 4] = ["delimiter", "name-form", "name-delimiter", "childre
 
 /// A layout.
 fn with_options(reader: Reader, value: &Value) -> Result<WithOptions, WireError>
-    ensures layout { IfOk result (λ w. IsLayout (view value.now) (view_layout w.layout)) }
+    ensures layout { IfOk result (λ w. IsLayout reader.marks (view value.now) (view_layout w.layout)) }
     ensures options { IfOk result (λ w. AreLayoutOptions (view value.now)
         (partial_options w.options)) }
 {
@@ -79,8 +79,8 @@ fn with_options(reader: Reader, value: &Value) -> Result<WithOptions, WireError>
 
 /// The citation. One that is absent is empty.
 fn citation_of(form: Form<'_>) -> Result<WithOptions, WireError>
-    ensures { IfOk result (λ w. IsCitation (member (codes "citation") (view form.entry.value.now))
-        (view_layout w.layout) (partial_options w.options)) }
+    ensures { IfOk result (λ w. IsCitation form.entry.reader.marks
+        (member (codes "citation") (view form.entry.value.now)) (view_layout w.layout) (partial_options w.options)) }
 {
     match form.member("citation") {
         Some(value) => within(Step::Member("citation"), with_options(form.reader, value)),
@@ -100,7 +100,7 @@ struct LayoutIf {
 
 /// The bibliography.
 fn bibliography_of(form: Form<'_>) -> Result<LayoutIf, WireError>
-    ensures { IfOk result (λ b. IsLayoutIf (member (codes "bibliography")
+    ensures { IfOk result (λ b. IsLayoutIf form.entry.reader.marks (member (codes "bibliography")
         (view form.entry.value.now)) (option_map view_layout b.layout)
         (partial_options b.options)) }
 {
@@ -206,7 +206,7 @@ struct StyleParts {
 /// The parts of a style.
 #[tactic(auto, using(crate::proofs::StylesRead::style_read))]
 fn parts_of(reader: Reader, value: &Value) -> Result<StyleParts, WireError>
-    ensures { IfOk result (λ p. IsStyle (view value.now) p.settings p.macros.items p.citation
+    ensures { IfOk result (λ p. IsStyle reader.marks (view value.now) p.settings p.macros.items p.citation
         p.bibliography) }
 {
     let form = Form::of(reader, value, &[&STYLE, &NAME_OPTIONS])?;
@@ -266,14 +266,9 @@ fn refused(alloc: Global, error: StyleError) -> WireError {
     }
 }
 
-/// A style.
-///
-/// Before you render with a style from a stranger, ask [`Style::all_within`] of its size.
-///
-/// # Errors
-/// [`WireError::Refused`]: the value is no style within the limits.
-pub fn style_of(alloc: Global, value: &Value, limits: Limits) -> Result<Style, WireError>
-    ensures { IfOk result (λ s. IsStyle (view value.now) s.settings s.macros s.citation
+/// The style that a value is.
+fn read_style(reader: Reader, value: &Value) -> Result<Style, WireError>
+    ensures { IfOk result (λ s. IsStyle reader.marks (view value.now) s.settings s.macros s.citation
         s.bibliography) }
 {
     let StyleParts {
@@ -282,9 +277,45 @@ pub fn style_of(alloc: Global, value: &Value, limits: Limits) -> Result<Style, W
         citation,
         bibliography,
         locales,
-    } = parts_of(Reader { alloc, limits }, value)?;
+    } = parts_of(reader, value)?;
+    let alloc = reader.alloc;
     match Style::new(alloc, settings, macros, citation, bibliography, locales) {
         Ok(style) => Ok(style),
         Err(error) => Err(refused(alloc, error)),
     }
+}
+
+/// A style, without the marks of cases.
+///
+/// Before you render with a style from a stranger, ask [`Style::all_within`] of its size.
+///
+/// # Errors
+/// [`WireError::Refused`]: the value is no style within the limits.
+pub fn style_of(alloc: Global, value: &Value, limits: Limits) -> Result<Style, WireError>
+    ensures { IfOk result (λ s. IsStyle false (view value.now) s.settings s.macros s.citation
+        s.bibliography) }
+{
+    let reader = Reader {
+        alloc,
+        limits,
+        marks: false,
+    };
+    read_style(reader, value)
+}
+
+/// A style whose affixes have the marks of cases, for [`csl_finish::apply_text_case`]: as
+/// `csl_list` takes it.
+///
+/// # Errors
+/// Those of [`style_of`].
+pub fn marked_style_of(alloc: Global, value: &Value, limits: Limits) -> Result<Style, WireError>
+    ensures { IfOk result (λ s. IsStyle true (view value.now) s.settings s.macros s.citation
+        s.bibliography) }
+{
+    let reader = Reader {
+        alloc,
+        limits,
+        marks: true,
+    };
+    read_style(reader, value)
 }

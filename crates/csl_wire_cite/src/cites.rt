@@ -15,7 +15,7 @@ use csl_entry::{
     CertainCiteProperties, CitationNumber, CiteProperties, IbidState, LocatorPayload, NoteNumber,
     SpecialForm, SpecificLocator, SpeculativeCiteProperties,
 };
-use csl_wire::{Code, Form, Reader, Step, WireError, within};
+use csl_wire::{Code, Form, Reader, Step, WireError, check_text, within};
 use serde_json::Value;
 use std::alloc::Global;
 
@@ -55,11 +55,7 @@ fn locator<'v>(reader: Reader, value: &'v Value) -> Result<SpecificLocator<'v>, 
     let label = form.one_named("label")?;
     match form.word("value")? {
         Some(text) => {
-            if text.len() > reader.limits.text {
-                return Err(WireError::of(reader.alloc, Code::TooLong, "the text is too long").after(
-                    Step::Member("value"),
-                ));
-            }
+            within(Step::Member("value"), check_text(reader, text))?;
             Ok(SpecificLocator(label, LocatorPayload::Str(text)))
         }
         None => Ok(SpecificLocator(label, LocatorPayload::Transparent)),

@@ -53,6 +53,7 @@ impl WorkLimits {
         Reader {
             alloc,
             limits: Limits { text: self.bytes },
+            marks: false,
         }
     }
 
@@ -63,6 +64,7 @@ impl WorkLimits {
         Reader {
             alloc,
             limits: Limits { text: self.number },
+            marks: false,
         }
     }
 }

@@ -1,33 +1,49 @@
 -- What was read, by the facts of its members.
-use Rattle.std.proofs.Common.{◌≡◌, sym, ap, subst, ◌∙◌, ℕ, List, [], Some, map, option_map, unwrap_or, slice_get, codes}
+use Rattle.std.proofs.Common.{◌≡◌, sym, ap, subst, ◌∙◌, ℕ, Bool, true, List, [], Some, map, option_map, unwrap_or, slice_get, codes}
 use Rattle.std.specs.List.{AllZip, flat_map}
 use Rattle.serde_json.specs.Data.{Data}
 use Rattle.serde_json.specs.Find.{as_str}
 use Rattle.csl_entry.specs.Numbers.{note_number}
 use Rattle.csl_style.specs.Style.{StyleParts}
+use Rattle.csl_list.specs.ListStyle.{bibliography_of, citation_of, english_of, style_of}
+use Rattle.csl_list.specs.declared.list_style.ListStyle.{ListStyle}
 use Rattle.csl_list.specs.declared.options.CitationOptions.{CitationOptions}
 use Rattle.csl_list.specs.declared.options.SortKey.{SortKey}
 use Rattle.csl_list.specs.declared.request.CitationRequest.{CitationRequest}
 use Rattle.csl_wire.specs.Reading.{member, read_list, read_member, read_number}
 use Rattle.csl_wire.specs.Styles.{IsStyle}
 use Rattle.csl_wire.proofs.Members.{one_read}
-use Rattle.csl_wire_list.specs.CitationOptions.{AreCitationOptions, AreCitationOptionsIf}
+use Rattle.csl_wire_list.specs.CitationOptions.{read_class, AreCitationOptions, AreCitationOptionsIf}
 use Rattle.csl_wire_list.specs.Citations.{names_in, IsCitation}
 use Rattle.csl_wire_list.specs.Documents.{word_in, IsDocument}
 use Rattle.csl_wire_list.specs.Items.{name_in, IsItem, IsOfWork}
 use Rattle.csl_wire_list.specs.Keys.{AreKeys, IsKey}
-use Rattle.csl_wire_list.specs.ListStyles.{IsStyleIn}
+use Rattle.csl_wire_list.specs.ListStyles.{read_english, AreOwnOptions, IsListStyle, IsStyleIn}
 use Rattle.csl_wire_list.specs.Works.{with_name, with_names}
 use Rattle.csl_wire_list.proofs.Longer.{kept_by_listed}
 
 pub keys_read : (d : Data) (items : List Data) (keys : List SortKey) → read_list (codes "sort") d ≡ Some items → AllZip IsKey items keys → AreKeys d keys
 keys_read d items keys are each = record { items = items; are = are; keys_ = each }
 
-pub style_read : (d own : Data) (s : StyleParts) → Some own ≡ member (codes "style") d → IsStyle own s.settings s.macros s.citation s.bibliography → IsStyleIn d s
+pub style_read : (d own : Data) (s : StyleParts) → Some own ≡ member (codes "style") d → IsStyle true own s.settings s.macros s.citation s.bibliography → IsStyleIn d s
 style_read d own s is style = record { own = own; is = sym is; style_ = style }
 
 pub citation_options_read : (d value : Data) (o : CitationOptions) → Some value ≡ member (codes "citation") d → AreCitationOptions value o → AreCitationOptionsIf (member (codes "citation") d) o
 citation_options_read d value o is h = subst (λ m. AreCitationOptionsIf m o) is h
+
+-- a style with its options, for which works are set to be English or not
+pub english_set : (d : Data) (made list : ListStyle) (english : Bool) → IsStyleIn d (style_of made)
+    → AreCitationOptionsIf (member (codes "citation") d) (citation_of made)
+    → read_class d ≡ Some (citation_of made).begins_with_capital → AreOwnOptions d (bibliography_of made)
+    → read_english d ≡ Some english → english_of list ≡ english → style_of list ≡ style_of made
+    → citation_of list ≡ citation_of made → bibliography_of list ≡ bibliography_of made → IsListStyle d list
+english_set d made list english style citation kind bibliography read is same_style same_citation same_bibliography = record {
+  style_ = subst (IsStyleIn d) (sym same_style) style;
+  citation_ = subst (AreCitationOptionsIf (member (codes "citation") d)) (sym same_citation) citation;
+  class_ = kind ∙ ap (λ o. Some o.begins_with_capital) (sym same_citation);
+  bibliography_ = subst (AreOwnOptions d) (sym same_bibliography) bibliography;
+  english_ = read ∙ ap Some (sym is);
+}
 
 -- ---- the work of a cite
 

@@ -17,7 +17,7 @@ use crate::works::{Mention, WorksSoFar};
 use csl_entry::{LocatorPayload, SpecificLocator};
 use csl_list::{CitationItem, plain_affix};
 use csl_tree::ElemChildren;
-use csl_wire::{Code, Form, Reader, Step, WireError, within};
+use csl_wire::{Form, Reader, Step, WireError, check_text, within};
 use serde_json::Value;
 use std::alloc::Global;
 
@@ -32,10 +32,7 @@ fn locator<'v>(reader: Reader, value: &'v Value) -> Result<SpecificLocator<'v>, 
     let label = form.one_named("label")?;
     match form.word("value")? {
         Some(text) => {
-            if text.len() > reader.limits.text {
-                let error = WireError::of(reader.alloc, Code::TooLong, "the text is too long");
-                return Err(error.after(Step::Member("value")));
-            }
+            within(Step::Member("value"), check_text(reader, text))?;
             Ok(SpecificLocator(label, LocatorPayload::Str(text)))
         }
         None => Ok(SpecificLocator(label, LocatorPayload::Transparent)),

@@ -51,6 +51,7 @@ impl OptionLimits {
         Reader {
             alloc,
             limits: self.style(),
+            marks: false,
         }
     }
 }
@@ -113,6 +114,7 @@ impl DocumentLimits {
         Reader {
             alloc,
             limits: Limits { text: self.text },
+            marks: false,
         }
     }
 
@@ -123,6 +125,7 @@ impl DocumentLimits {
         Reader {
             alloc,
             limits: Limits { text: self.locator },
+            marks: false,
         }
     }
 }

@@ -1,28 +1,72 @@
 //! A style with its options for a document (CSL 1.0.2, Style Structure).
 //! Definitions: specs/ListStyles.antt.
 
-ghost use Rattle.std.specs.Prelude.{IfOk};
+ghost use Rattle.std.specs.Prelude.{◌≡◌, Some, IfOk, map, option_map};
 ghost use Rattle.serde_json.specs.View.{view};
 ghost use Rattle.csl_wire_list.specs.ListStyles.{IsListStyle, IsStyleIn};
+ghost use Rattle.csl_wire_list.specs.ListStyles as spec;
 
 use crate::bibliography::bibliography_options;
 use crate::citation::citation_options;
 use crate::limits::OptionLimits;
 use crate::unknown::unknown_name;
+use csl_languages::Language;
 use csl_list::{ListStyle, ListStyleError};
 use csl_style::{Scope, Style};
-use csl_wire::{Code, Form, Step, WireError, style_of, within};
+use csl_wire::{Code, Form, Step, WireError, marked_style_of, within};
 use serde_json::Value;
 use std::alloc::Global;
 
-/// The style among the members.
+/// The first of the locales that is a tag, if one is.
+fn first_tag(locales: &[Value]) -> Option<&str>
+    ensures { option_map (λ tag. tag.now) result ≡ spec.first_tag (map view locales.now) }
+{
+    for locale in locales {
+        if let Some(tag) = locale.as_str() {
+            return Some(tag);
+        }
+    }
+    None
+}
+
+/// Whether a tag is one of English.
+fn is_english_tag(tag: &str) -> bool
+    ensures { result ≡ spec.is_english_tag tag.now }
+{
+    match Language::from_tag(tag) {
+        Some(language) => language == Language::English || language == Language::BritishEnglish,
+        None => false,
+    }
+}
+
+/// Whether works are English that do not say so themselves: by the first tag among the locales of
+/// the style. Without a tag they are.
+fn is_english(form: Form<'_>) -> Result<bool, WireError>
+    ensures { IfOk result (λ english. spec.read_english (view form.entry.value.now)
+        ≡ Some english) }
+{
+    let Some(value) = form.member("style") else {
+        return Ok(true);
+    };
+    let style = Form {
+        reader: form.reader,
+        value,
+    };
+    let locales = within(Step::Member("style"), style.items("locales"))?;
+    match first_tag(locales) {
+        Some(tag) => Ok(is_english_tag(tag)),
+        None => Ok(true),
+    }
+}
+
+/// The style among the members, with the marks of cases.
 #[tactic(auto, using(crate::proofs::Read::style_read))]
 fn style_in(form: Form<'_>, limits: OptionLimits) -> Result<Style, WireError>
     ensures { IfOk result (IsStyleIn (view form.entry.value.now)) }
 {
     match form.member("style") {
         Some(value) => {
-            let style = style_of(form.reader.alloc, value, limits.style());
+            let style = marked_style_of(form.reader.alloc, value, limits.style());
             Ok(within(Step::Member("style"), style)?)
         }
         None => Err(form.missing("style")),
@@ -89,6 +133,7 @@ fn refused(form: Form<'_>, error: ListStyleError) -> WireError {
 /// # Errors
 /// [`WireError::Refused`]: the members are no style with its options within the limits, or a key is
 /// by a macro that the style lacks.
+#[tactic(auto, using(crate::proofs::Read::english_set))]
 pub fn list_style_in(form: Form<'_>, limits: OptionLimits) -> Result<ListStyle, WireError>
     ensures { IfOk result (IsListStyle (view form.entry.value.now)) }
 {
@@ -96,8 +141,9 @@ pub fn list_style_in(form: Form<'_>, limits: OptionLimits) -> Result<ListStyle, 
     let citation = citation_options(limits, form)?;
     let bibliography = bibliography_options(limits, form)?;
     let style = style_in(form, limits)?;
+    let english = is_english(form)?;
     match ListStyle::new(alloc, style, citation, Some(bibliography)) {
-        Ok(style) => Ok(style),
+        Ok(style) => Ok(style.with_english(english)),
         Err(error) => Err(refused(form, error)),
     }
 }

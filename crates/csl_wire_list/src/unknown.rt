@@ -17,6 +17,7 @@ pub(crate) fn unknown_name(alloc: Global, name: &str, known: &[&str]) -> WireErr
     let reader = Reader {
         alloc,
         limits: Limits::none(),
+        marks: false,
     };
     match choices_of(alloc, known) {
         Ok(choices) => match chosen(reader, choices.as_slice(), name) {

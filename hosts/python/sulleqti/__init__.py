@@ -4,7 +4,7 @@
 >>> style = sulleqti.Style("apa.csl", ["en-GB"])       # doctest: +SKIP
 >>> works, faults = sulleqti.works_of("items.json", style.left)       # doctest: +SKIP
 """
-from sulleqti.attributes import Tree, rendered
+from sulleqti.attributes import Tree
 from sulleqti.citations import Citation, citations_of
 from sulleqti.document import Refused
 from sulleqti.locales import locale_of
@@ -13,4 +13,4 @@ from sulleqti.styles import Style
 from sulleqti.works import Work, works_of
 
 __all__ = ["Citation", "Content", "Document", "Entry", "Processor", "Refused", "ServerEnded",
-           "Style", "Tree", "Work", "citations_of", "locale_of", "rendered", "works_of"]
+           "Style", "Tree", "Work", "citations_of", "locale_of", "works_of"]

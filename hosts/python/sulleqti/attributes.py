@@ -30,13 +30,6 @@ NAME_OPTIONS = {name: sort for name, sort in INHERITED.items()
                 if name not in ("name-form", "name-delimiter", "names-delimiter")}
 
 
-def rendered(value: Any) -> Any:
-    """A value without the text cases in it, which the library does not render."""
-    if isinstance(value, dict):
-        return {name: rendered(it) for name, it in value.items() if name != "text-case"}
-    return [rendered(it) for it in value] if isinstance(value, list) else value
-
-
 class Attributes:
     """The attributes of an element that are still to be read. `left` counts what the library leaves
     out."""
@@ -96,12 +89,12 @@ class Attributes:
         return self.taken(FORMATTING)
 
     def text_case(self) -> Tree:
-        """The text case, which is counted: only rows have it (`rendered`), and only where one text
-        is printed."""
-        is_cased, found = self.node.name in CASED, self.taken({"text-case": "case"})
-        where = "" if is_cased else f" of `{self.node.name}`"
-        self.left[f"`text-case`{where}"] += len(found)
-        return found if is_cased else {}
+        """The text case. It is left out of an element that prints more than one text."""
+        found = self.taken({"text-case": "case"})
+        if self.node.name in CASED:
+            return found
+        self.left[f"`text-case` of `{self.node.name}`"] += len(found)
+        return {}
 
     def end(self, children: Tuple[str, ...] = ()) -> None:
         """Refuses any other attribute, and each child but these."""

@@ -12,6 +12,8 @@ LANGUAGE = "{http://www.w3.org/XML/1998/namespace}lang"
 # have 20 levels, 70,453 bytes, and texts of 74 bytes.
 DEEPEST, MOST_BYTES, MOST_OF_TEXT = 100, 71_000, 200
 LARGE = "more than 71 KB: published files have less"
+# The characters that the library keeps for its marks of text cases. None stays in a text.
+RESERVED = re.compile("[\ufdd0-\ufdef]")
 # The elements of which the text prints.
 TERMS = ("term", "single", "multiple")
 
@@ -96,7 +98,8 @@ class Reader:
             """A name with its namespace in braces."""
             return "{" + name if "}" in name else name
 
-        node = Node(whole(name), {whole(key): value for key, value in attributes.items()})
+        node = Node(whole(name), {whole(key): RESERVED.sub("", value)
+                                  for key, value in attributes.items()})
         node.place = self.place()
         if len(self.open) == DEEPEST:
             node.refuse(f"the elements are nested more than {DEEPEST} levels deep")
@@ -117,7 +120,7 @@ class Reader:
         """Puts the text that ends here where it belongs: into the open element, or after the last
         one inside of it."""
         if self.texts:
-            node, text = self.open[-1], "".join(self.texts)
+            node, text = self.open[-1], RESERVED.sub("", "".join(self.texts))
             self.texts.clear()
             if len(node):
                 node[-1].tail = text

@@ -15,6 +15,8 @@ TARGETS = {"variable": {"variable": "TextVariable", "form": "LongShortForm"},
            "macro": {"macro": "text"},
            "term": {"term": "text", "form": "TermForm", "plural": "flag"},
            "value": {"value": "text"}}
+# The variables that print as links. Their texts keep their case, as addresses do.
+LINKS = ("DOI", "PMCID", "PMID", "URL")
 TESTS = {"disambiguate": "true", "is-numeric": "Variable*", "is-uncertain-date": "DateVariable*",
          "locator": "Locator*", "position": "TestPosition*", "type": "Kind*",
          "variable": "Variable*"}
@@ -29,11 +31,11 @@ class Scope(NamedTuple):
 
 
 class Elements:
-    """Reads elements. `left` counts what the library leaves out, and `places` has the places of
-    what is read, by its `id`."""
+    """Reads elements. `left` counts what the library leaves out, `cases` the text cases, and
+    `places` has the places of what is read, by its `id`."""
 
     def __init__(self, left: Counter[str]) -> None:
-        self.left = left
+        self.left, self.cases = left, 0
         self.places: Dict[int, str] = {}
 
     def made(self, node: Node, value: Tree) -> Tree:
@@ -59,7 +61,7 @@ class Elements:
         node that has both. (A group counts as a variable, so no group may be around a node that
         prints none.)"""
         is_split = given.is_split()
-        value.update({**given.formatting(), **given.text_case()})
+        value.update({**given.formatting(), **self.text_case(given)})
         outer = given.taken({**AFFIXES, "display": "Display"})
         given.end(inside)
         if is_split and is_variable:
@@ -68,10 +70,16 @@ class Elements:
         self.left[INSIDE] += is_split
         return {given.node.name: self.made(given.node, {**value, **outer})}
 
+    def text_case(self, given: Attributes) -> Tree:
+        """The text case."""
+        found = given.text_case()
+        self.cases += len(found)
+        return found
+
     def look(self, given: Attributes) -> Tree:
         """The formatting and the affixes of what no group can be around."""
         self.left[INSIDE] += given.is_split()
-        return {**given.formatting(), **given.taken(AFFIXES), **given.text_case()}
+        return {**given.formatting(), **given.taken(AFFIXES), **self.text_case(given)}
 
     # ---- texts, numbers, labels and dates
 
@@ -89,6 +97,8 @@ class Elements:
                 return None
             value["term"] = OTHER_SPELLINGS.get(name, name)
         value.update(given.taken({"quotes": "flag", "strip-periods": "flag"}))
+        if value.get("variable") in LINKS:
+            given.taken({"text-case": "case"})
         is_variable = value.get("variable", "year-suffix") != "year-suffix"
         return self.dressed(given, value, is_variable=is_variable)
 

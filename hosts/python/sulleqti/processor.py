@@ -12,7 +12,7 @@ import subprocess
 import threading
 from typing import Any, Deque, Dict, Iterable, List, Sequence, Tuple, Union
 
-from sulleqti.attributes import Tree, rendered
+from sulleqti.attributes import Tree
 from sulleqti.citations import Citation
 from sulleqti.document import Refused
 from sulleqti.locales import locale_of
@@ -135,7 +135,7 @@ class Processor:
         raises `Refused` with the place in the file if that is no style that the library takes."""
         source, name = Style(path, [locale_of(locale)] if locale else []), f"{next(self.names)}"
         try:
-            self.ask("style", name=name, **rendered(source.tree))
+            self.ask("style", name=name, **source.tree)
         except RefusedRequest as why:
             raise Refused(f"{source.place(why.at)}: {why.message}") from None
         return ProcessorStyle(self, name, source)
@@ -189,8 +189,11 @@ class Works:
             self.send(works[start:start + MOST_WORKS])
 
     def send(self, works: List[Work]) -> None:
-        """Keeps works. One that is refused is told and left out."""
-        sent = [{"name": self.prefix + it.id, "work": it.tree} for it in works]
+        """Keeps works. One that is refused is told and left out. A work without a language is in
+        that of the style."""
+        is_english = self.style.source.language.lower().startswith("en")
+        sent = [{"name": self.prefix + it.id, "work": {"english": is_english, **it.tree}}
+                for it in works]
         for work, reply in zip(works, self.style.processor.ask("works", works=sent)):
             try:
                 answer_of(reply)

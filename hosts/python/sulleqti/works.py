@@ -9,7 +9,7 @@ import re
 from typing import Any, Counter, Dict, Iterable, Iterator, List, Sequence, Tuple, Union
 
 from sulleqti.attributes import Tree
-from sulleqti.document import Refused, content_of
+from sulleqti.document import RESERVED, Refused, content_of
 from sulleqti.names import NAMES, SORTS
 
 # The most bytes of a file, the most persons of a variable, the most faults that have a hint and a
@@ -32,9 +32,11 @@ MARKUP = re.compile(r"</?(?:i|b|sub|sup|sc|span)(?:\s[^<>]*)?>", re.IGNORECASE)
 BEFORE_DOI = re.compile(r"^(?:https?://(?:dx\.)?doi\.org/|doi:) *", re.IGNORECASE)
 SPACES = re.compile("[ \t\r\n]+")
 CONTROL = re.compile("[\0-\x1f\x7f-\x9f\u2028\u2029]")
+NO_CASE = re.compile(r"<span\s+class=[\"']nocase[\"']\s*>", re.IGNORECASE)
 HALVES = re.compile("[\ud800-\udfff]")
 # What is left out of items.
 RANGES, ORDER, TAGS = "ranges of dates", "`static-ordering`", "markup in texts"
+KEPT_CASE = "`nocase` in texts"
 NO_LIST = 'no list of items, as [{"id": "a", "type": "book"}]'
 PARTS = "no date: a year, a month and a day go here"
 
@@ -60,8 +62,8 @@ class Work:
 
 
 def on_one_line(text: str) -> str:
-    """A text on one line, without control characters and halves of characters."""
-    return HALVES.sub("\ufffd", CONTROL.sub(" ", SPACES.sub(" ", text)))
+    """A text on one line, without control characters, halves of characters and marks of cases."""
+    return HALVES.sub("\ufffd", CONTROL.sub(" ", SPACES.sub(" ", RESERVED.sub("", text))))
 
 
 def cleaned(text: str) -> str:
@@ -178,7 +180,9 @@ class Reader:
         """A text without the markup that some programs put into it."""
         text = text_of(value)
         found = MARKUP.sub("", text)
-        self.left[TAGS] += found != text
+        is_cased = NO_CASE.search(text) is not None
+        self.left[KEPT_CASE] += is_cased
+        self.left[TAGS] += found != text and not is_cased
         return found
 
     def persons(self, value: Any) -> List[Tree]:

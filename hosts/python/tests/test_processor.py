@@ -116,7 +116,7 @@ class Served(unittest.TestCase):
             self.assertEqual((list(works.ids), len(works.warnings)), (["kwan", "doe", "7"], 4))
             self.assertEqual(works.cite("kwan").text, "van der Kwan, Okafor, and ACME, 2014!")
             self.assertEqual(works.line("7").html,
-                             '“<span style="font-style: italic;">Line by line</span>')
+                             '“<span style="font-style: italic;">Line by Line</span>')
             self.assertEqual(works.sort_key("7", variable="title"), "Line by line")
             given = processor.style(STYLE).works([{"id": 1, "type": "book", "titel": "T"}, 7])
             self.assertEqual(given.warnings[1], "item 2: an item has to be an object")

@@ -10,7 +10,7 @@ import sulleqti
 HERE = os.path.dirname(os.path.abspath(__file__))
 STYLE, ITEMS = f"{HERE}/moss.csl", f"{HERE}/items.json"
 # What is left out of the style.
-LEFT = {"`text-case`": 2, "`names-min` of a `key` by a variable": 1, "the term `film`": 1,
+LEFT = {"`names-min` of a `key` by a variable": 1, "the term `film`": 1,
         "terms of locales that the library does not name": 1, "`locale` of another language": 1,
         "`font-style` oblique (written as italic)": 1}
 # Pointers into the style, and the lines of what they lead to.
@@ -42,7 +42,7 @@ class Readers(unittest.TestCase):
     def test_style(self):
         """A style, its options, and what is left out of it."""
         style = sulleqti.Style(STYLE, ["en-US"])
-        self.assertEqual(sulleqti.rendered(style.tree), value_of("moss.json"))
+        self.assertEqual(style.tree, value_of("moss.json"))
         self.assertEqual(dict(+style.left), LEFT)
         self.assertEqual((style.title, style.rights), ("Moss and <more>", "None."))
 
@@ -66,6 +66,23 @@ class Readers(unittest.TestCase):
                 place = f"{room}/a.csl:{before.count(chr(10)) + 1}: "
                 self.assertIn(why, str(found.exception))
                 self.assertTrue(str(found.exception).startswith(place), found.exception)
+
+    def test_cases(self):
+        """A link keeps its case, a mark of a case goes, and what keeps its case is told."""
+        with open(STYLE, encoding="utf-8") as file:
+            text = file.read()
+        new = '<text variable="URL" text-case="lowercase" suffix="a\ufdd1"/>'
+        with tempfile.TemporaryDirectory() as room:
+            with open(f"{room}/a.csl", "w", encoding="utf-8") as file:
+                file.write(text.replace('<text macro="author"/>', new))
+            style = sulleqti.Style(f"{room}/a.csl")
+        group = style.tree["style"]["citation"]["children"][0]["group"]
+        self.assertEqual(group["children"][0], {"text": {"variable": "URL", "suffix": "a"}})
+        left = collections.Counter()
+        title = 'On <span class="nocase">pH</span>\ufddd'
+        works, faults = sulleqti.works_of([{"id": "a", "type": "book", "title": title}], left)
+        self.assertEqual((works[0].tree["variables"]["title"], faults), ("On pH", []))
+        self.assertEqual(dict(+left), {"`nocase` in texts": 1})
 
     def test_works(self):
         """Works, what is wrong with them, and what is left out of them."""

@@ -2,6 +2,7 @@
 //! by hand.
 
 mod bounds;
+mod cases;
 mod conversation;
 mod documents;
 mod over_lines;

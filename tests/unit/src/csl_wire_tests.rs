@@ -1,6 +1,7 @@
 //! Tests of nodes, styles and locales from JSON. Expected values are those of docs/WIRE.md, written
 //! out by hand.
 
+mod cases;
 mod described_nodes;
 mod limits;
 mod locales;

@@ -78,15 +78,31 @@ fn text_target(forms: &Forms<'_>) -> Result<TextTarget, Fault> {
     }
 }
 
+/// Whether a text prints a link. Its prefix may begin the address, which keeps its case.
+fn is_link(target: &TextTarget) -> bool {
+    match target {
+        TextTarget::Variable {
+            var: Variable::Standard(variable),
+            ..
+        } => matches!(variable.name(), "DOI" | "PMCID" | "PMID" | "URL"),
+        _ => false,
+    }
+}
+
 fn text(forms: &Forms<'_>) -> Result<Text, Fault> {
     let own = "variable macro term value form plural quotes strip-periods display";
     forms.ensure_attributes(&[own, FORMATTING, CASED])?;
     forms.ensure_lists("")?;
     let target = text_target(forms)?;
+    let affixes = if is_link(&target) {
+        affixes(forms)?
+    } else {
+        cased_affixes(forms)?
+    };
     Ok(Text {
         target,
         formatting: formatting(forms)?,
-        affixes: cased_affixes(forms)?,
+        affixes,
         display: forms.choice("display")?,
         quotes: forms.is_true("quotes")?,
         strip_periods: forms.is_true("strip-periods")?,

@@ -81,7 +81,11 @@ fn document_of_a_request(rt: HostRuntime) {
     let value = json(&rt, alloc, request);
     let limits = Limits::of_strangers();
     let form = Form::of(
-        Reader { alloc, limits },
+        Reader {
+            alloc,
+            limits,
+            marks: false,
+        },
         &value,
         &[&["op", "citations", "works"]],
     );

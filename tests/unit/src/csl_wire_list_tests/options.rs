@@ -6,7 +6,7 @@ use crate::csl_wire_list_tests::reading::{
 use crate::shared::assert_cases;
 use crate::wire::json;
 use csl_wire::{Form, Limits, Reader};
-use csl_wire_list::{OptionLimits, list_style_in};
+use csl_wire_list::{OptionLimits, list_style_in, list_style_of};
 
 /// Options of citations, and those that are read otherwise than where none are set.
 const CITATIONS: &str = r#"
@@ -160,6 +160,28 @@ fn styles_with_options(rt: HostRuntime) {
     );
 }
 
+/// Styles, and whether works are English by them that do not say so.
+static LANGUAGES: [(&str, bool); 6] = [
+    (r#"{"style": {}}"#, true),
+    (r#"{"style": {"locales": ["en-GB"]}}"#, true),
+    (r#"{"style": {"locales": ["EN"]}}"#, true),
+    (r#"{"style": {"locales": ["de-DE", "en-US"]}}"#, false),
+    // a locale without a tag says nothing
+    (r#"{"style": {"locales": [{}, "fr"]}}"#, false),
+    (r#"{"style": {"locales": [{}]}}"#, true),
+];
+
+#[test]
+fn languages_of_styles(rt: HostRuntime) {
+    let alloc = rt.alloc();
+    for &(text, wanted) in &LANGUAGES {
+        let value = json(&rt, alloc, text);
+        let style = list_style_of(alloc, &value, OptionLimits::of_strangers());
+        let style = style.expect(&rt, "a style");
+        assert_eq!(&rt; style.is_english(), wanted, "of {text}");
+    }
+}
+
 /// A request with a style has further members.
 #[test]
 fn style_of_a_request(rt: HostRuntime) {
@@ -168,7 +190,11 @@ fn style_of_a_request(rt: HostRuntime) {
     let value = json(&rt, alloc, request);
     let limits = Limits::of_strangers();
     let form = Form::of(
-        Reader { alloc, limits },
+        Reader {
+            alloc,
+            limits,
+            marks: false,
+        },
         &value,
         &[&["op", "style", "citation"]],
     );

@@ -122,7 +122,7 @@ fn errors_from_further_out(rt: HostRuntime) {
 }
 
 /// The names of the codes, no two alike.
-static CODES: [(Code, &str); 10] = [
+static CODES: [(Code, &str); 11] = [
     (Code::NotJson, "not-json"),
     (Code::WrongType, "wrong-type"),
     (Code::UnknownMember, "unknown-member"),
@@ -130,6 +130,7 @@ static CODES: [(Code, &str); 10] = [
     (Code::UnknownName, "unknown-name"),
     (Code::OutOfRange, "out-of-range"),
     (Code::TooLong, "too-long"),
+    (Code::ReservedCharacter, "reserved-character"),
     (Code::TooDeep, "too-deep"),
     (Code::CyclicMacro, "cyclic-macro"),
     (Code::Unsupported, "unsupported"),

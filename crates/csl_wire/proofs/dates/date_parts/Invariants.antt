@@ -6,4 +6,4 @@ use Rattle.csl_wire.proofs.dates.date_parts.Given as goal
 
 -- the parts so far are those of the items so far
 abbrev pub invariant-loop-place : goal.invariant-loop-place
-invariant-loop-place l = map read_date_part (map view (take l.place l.items)) ≡ map Some (map view_date_part l.parts.items)
+invariant-loop-place l = map (read_date_part l.reader.marks) (map view (take l.place l.items)) ≡ map Some (map view_date_part l.parts.items)

@@ -38,10 +38,10 @@ decreases-nodes_if l = 5 * l.left + 1
 
 -- the nodes so far are those of the items so far
 abbrev pub invariant-nodes-loop-place : goal.invariant-nodes-loop-place
-invariant-nodes-loop-place l = AllZip (IsNode (AreNodes l.lower)) (map view (take l.place l.items)) (map view_node l.nodes.items)
+invariant-nodes-loop-place l = AllZip (IsNode l.reader.marks (AreNodes l.reader.marks l.lower)) (map view (take l.place l.items)) (map view_node l.nodes.items)
 
 abbrev pub invariant-children-loop-place : goal.invariant-children-loop-place
-invariant-children-loop-place l = AllZip (IsChild (AreNodes l.fn.left)) (map view (take l.place l.items)) (map view_child l.children.items)
+invariant-children-loop-place l = AllZip (IsChild l.reader.marks (AreNodes l.reader.marks l.fn.left)) (map view (take l.place l.items)) (map view_child l.children.items)
 
 abbrev pub invariant-branches-loop-place : goal.invariant-branches-loop-place
-invariant-branches-loop-place l = AllZip (IsBranch (AreNodes l.fn.left)) (map view (take l.place l.items)) (map view_branch l.branches.items)
+invariant-branches-loop-place l = AllZip (IsBranch (AreNodes l.reader.marks l.fn.left)) (map view (take l.place l.items)) (map view_branch l.branches.items)

@@ -7,4 +7,4 @@ use Rattle.csl_wire.proofs.styles.macros.Given as goal
 
 -- the macros so far are those of the items so far
 abbrev pub invariant-loop-place : goal.invariant-loop-place
-invariant-loop-place l = AllZip IsMacro (map view (take l.place l.items)) (map definition l.macros.items)
+invariant-loop-place l = AllZip (IsMacro l.reader.marks) (map view (take l.place l.items)) (map definition l.macros.items)
