@@ -103,7 +103,7 @@ pub fn is_case_mark(c: char) -> bool
 }
 
 /// Whether a text has a mark.
-pub(crate) fn has_case_mark(text: &str) -> bool
+pub fn has_case_mark(text: &str) -> bool
     ensures { result ≡ spec.has_mark text.now }
 {
     text.chars().any(is_case_mark)

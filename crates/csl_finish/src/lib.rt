@@ -29,7 +29,7 @@ mod spaces;
 mod text_case;
 mod unmarked;
 
-pub use case_marks::{TextCase, is_case_mark, without_case_marks};
+pub use case_marks::{TextCase, has_case_mark, is_case_mark, without_case_marks};
 pub use finishing::finish;
 pub use folding::fold;
 pub use keys::{KeyText, SortDirection, order_of};

@@ -16,7 +16,7 @@ use crate::limits::Reader;
 use crate::named::Named;
 use crate::nearest::{unknown, unknown_among};
 use crate::refusal::{Code, Step, WireError, within};
-use csl_finish::is_case_mark;
+use csl_finish::has_case_mark;
 use serde_json::{Map, Value};
 
 /// An object, as the attributes and children of an element.
@@ -122,7 +122,7 @@ pub fn check_text(reader: Reader, text: &str) -> Result<(), WireError>
     if text.len() > reader.limits.text {
         return Err(WireError::of(reader.alloc, Code::TooLong, "the text is too long"));
     }
-    if text.chars().any(|it| is_case_mark(it)) {
+    if has_case_mark(text) {
         return Err(WireError::of(
             reader.alloc,
             Code::ReservedCharacter,
