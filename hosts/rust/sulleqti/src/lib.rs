@@ -2,8 +2,8 @@
 //! what is defined.
 //!
 //! An [`Engine`] keeps styles. A [`BibliographyDriver`] collects the citations of a document, and
-//! renders them and the bibliography for works of any type that is [`EntryLike`]. Names are those of
-//! the crate `hayagriva`, where it has the same.
+//! renders them and the bibliography, for works of any type that has the trait [`EntryLike`]. Names
+//! are those of the crate `hayagriva`, where it has the same.
 //!
 //! ```
 //! use std::borrow::Cow;
