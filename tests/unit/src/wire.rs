@@ -1,6 +1,6 @@
 //! What the tests of values from JSON need.
 
-use crate::shared::repeated;
+use crate::shared::{assert_cases, repeated};
 use csl_wire::{WireError, value_of_text};
 use serde_json::Value;
 use std::alloc::Global;
@@ -23,27 +23,39 @@ pub(crate) fn told(rt: &impl Abort, alloc: Global, error: WireError) -> String {
     }
 }
 
-/// JSON with so many texts in the place of `@`, which is within the limits of strangers. One text more
-/// is refused as the last column says.
-pub(crate) type Bound = (&'static str, &'static str, usize, &'static str);
+/// The refusal of what is read; nothing if it is not refused.
+pub(crate) fn refusal_of<T: Drop>(
+    rt: &impl Abort,
+    alloc: Global,
+    read: Result<T, WireError>,
+) -> String {
+    match read {
+        Ok(_) => String::new(alloc),
+        Err(error) => told(rt, alloc, error),
+    }
+}
 
-/// Asserts bounds by the refusals of texts, which are empty where these are read.
+/// Asserts bounds. In a table (`assert_cases`), each is so many texts in the place of `@` of JSON, which
+/// is within the limits of strangers, and the refusal of one text more. The answer is the refusal of
+/// JSON, which is empty where this is read.
 pub(crate) fn assert_bounds<F: Fn(&str) -> String>(
     rt: &impl Abort,
     alloc: Global,
-    bounds: &[Bound],
-    refusal: &F,
+    bounds: &str,
+    answer: &F,
 ) {
-    for &(pattern, text, most, wanted) in bounds {
+    let refusal = |bound: &str| {
+        let (most, rest) = bound.split_once(" of ").expect(rt, "a number");
+        let most = most.parse::<usize>().ok().expect(rt, "a number");
+        let (text, pattern) = rest.split_once(" in ").expect(rt, "a text");
         let (before, after) = pattern.split_once('@').expect(rt, "a place");
-        for (count, wanted) in [(most, ""), (most + 1, wanted)] {
+        let answer_to = |count: usize| {
             let texts = repeated(rt, alloc, text, count);
             let json = format!(in alloc; "{before}{texts}{after}").expect(rt, "memory");
-            assert_eq!(rt;
-                refusal(json.as_str()).as_str(),
-                wanted,
-                "{count} in {pattern}"
-            );
-        }
-    }
+            answer(json.as_str())
+        };
+        assert_eq!(rt; answer_to(most).as_str(), "", "of {bound}");
+        answer_to(most + 1)
+    };
+    assert_cases(rt, alloc, bounds, &refusal);
 }

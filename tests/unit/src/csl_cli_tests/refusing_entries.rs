@@ -119,12 +119,8 @@ fn assert_rows(
 
 #[test]
 fn refusing_entries_by_author_and_date(rt: HostRuntime) -> Result<(), Fail> {
-    assert_rows(
-        &rt,
-        rt.alloc(),
-        BuiltInStyle::AuthorDate,
-        &AUTHORS_AND_DATES,
-    )
+    let style = BuiltInStyle::AuthorDate;
+    assert_rows(&rt, rt.alloc(), style, &AUTHORS_AND_DATES)
 }
 
 #[test]

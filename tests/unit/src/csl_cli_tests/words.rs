@@ -128,20 +128,16 @@ fn words_and_what_they_give(rt: HostRuntime) {
 #[test]
 fn words_that_are_refused(rt: HostRuntime) {
     let alloc = rt.alloc();
-    assert_cases(
-        &rt,
-        alloc,
-        REFUSALS,
-        &|line| {
-            let words = line.split(' ').map(|word| string(&rt, alloc, word));
-            let words: Vec<String> = words.collect(alloc).ok().expect(&rt, "memory");
-            let (mut wrote, mut said) = (String::new(alloc), String::new(alloc));
-            let status = run(alloc, words.as_slice(), &mut wrote, &mut said);
-            assert_status(&rt, status, 2, &[line]);
-            assert_text(&rt, wrote.as_str(), "", &[line]);
-            said
-        },
-    );
+    let answer = |line: &str| {
+        let words = line.split(' ').map(|word| string(&rt, alloc, word));
+        let words: Vec<String> = words.collect(alloc).ok().expect(&rt, "memory");
+        let (mut wrote, mut said) = (String::new(alloc), String::new(alloc));
+        let status = run(alloc, words.as_slice(), &mut wrote, &mut said);
+        assert_status(&rt, status, 2, &[line]);
+        assert_text(&rt, wrote.as_str(), "", &[line]);
+        said
+    };
+    assert_cases(&rt, alloc, REFUSALS, &answer);
 }
 
 #[test]

@@ -49,11 +49,7 @@ fn texts_and_parts_are_written(rt: HostRuntime) -> Result<(), Fail> {
     ctx.apply_suffix(&setup.affixes, middle, false)?;
     let content = ctx.finish()?.content;
     let html = content.to_text(rt.alloc(), BufWriteFormat::Html)?;
-    assert_text(
-        &rt,
-        Some(html.as_str()),
-        Some("a bc<div>d</div>e&lt;f&gt;(g, "),
-    );
+    assert_eq!(&rt; html.as_str(), "a bc<div>d</div>e&lt;f&gt;(g, ");
     let Some(ElemChild::Elem(outer)) = content.0.get(1) else {
         panic!(rt; "no element after the first text");
     };
@@ -238,11 +234,8 @@ fn lookups_find_what_is_not_suppressed(rt: HostRuntime) -> Result<(), Fail> {
     assert_same(&rt, &genre.is_some(), &false);
     let suppressed = ctx.finish()?.state.suppressed;
     let genre = Variable::Standard(StandardVariable::Genre);
-    assert_same(
-        &rt,
-        &(suppressed.len(), suppressed.contains(&genre)),
-        &(6, true),
-    );
+    let found = (suppressed.len(), suppressed.contains(&genre));
+    assert_same(&rt, &found, &(6, true));
     Ok(())
 }
 
@@ -257,16 +250,10 @@ fn a_failed_context_returns_failed(rt: HostRuntime) -> Result<(), Fail> {
     let refused: Result<u8, Memory> = Err(Memory);
     assert_same(&rt, &ctx.attempt(refused), &Err(RenderError::Memory));
     let failed = Some(RenderError::Failed);
-    assert_same(
-        &rt,
-        &(ctx.has_failed(), ctx.ensure_live().err()),
-        &(true, failed),
-    );
-    assert_same(
-        &rt,
-        &(ctx.push_str("a").err(), ctx.finish().err()),
-        &(failed, failed),
-    );
+    assert_same(&rt, &ctx.has_failed(), &true);
+    assert_same(&rt, &ctx.ensure_live().err(), &failed);
+    assert_same(&rt, &ctx.push_str("a").err(), &failed);
+    assert_same(&rt, &ctx.finish().err(), &failed);
     let mut ctx = setup.context()?;
     ctx.fail();
     let given: Result<u8, Memory> = Ok(7);

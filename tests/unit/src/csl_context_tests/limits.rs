@@ -36,12 +36,8 @@ fn a_context_fails_beyond_its_limit(rt: HostRuntime) -> Result<(), Fail> {
             ctx.push_str("c").err(),
         ];
         assert_of(&rt, &answers, &wanted, limit);
-        assert_of(
-            &rt,
-            &(ctx.room(), ctx.has_failed()),
-            &(left, limit < 70),
-            limit,
-        );
+        assert_of(&rt, &ctx.room(), &left, limit);
+        assert_of(&rt, &ctx.has_failed(), &(limit < 70), limit);
     }
     Ok(())
 }

@@ -1,7 +1,7 @@
 //! The style, the entry and the cite of these tests.
 
 use crate::shared::{alone, chunks};
-use csl_context::{Context, Rendered};
+use csl_context::{Context, LeftState, Rendered};
 use csl_entry::{CiteProperties, DisambiguateState, InstanceContext, Sorting, SpecialForm};
 use csl_languages::Language;
 use csl_laws::table::Table;
@@ -50,6 +50,12 @@ impl Setup {
     pub(crate) fn context(&self) -> Result<Context<'_, Table>, Fail> {
         let cite = self.instance();
         Ok(Context::new(self.alloc, &self.style, cite, Scope::Citation)?)
+    }
+
+    /// A context that resumes from what another one left.
+    pub(crate) fn resumed(&self, left: &LeftState) -> Result<Context<'_, Table>, Fail> {
+        let (cite, scope) = (self.instance(), Scope::Citation);
+        Ok(Context::resume(self.alloc, &self.style, cite, scope, left)?)
     }
 
     /// The rendering of a new context, to which a text was added if there is one.

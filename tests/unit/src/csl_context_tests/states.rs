@@ -2,9 +2,9 @@
 
 use crate::assertions::assert_same;
 use crate::csl_context_tests::setup::Setup;
-use csl_context::{Context, LeftState, Rendered};
+use csl_context::{LeftState, Rendered};
 use csl_entry::{DisambiguatedNameForm, NameDisambiguationProperties};
-use csl_style::{Scope, StandardVariable};
+use csl_style::StandardVariable;
 use lit_model::LongShortForm;
 use std::test::Fail;
 
@@ -14,13 +14,7 @@ fn a_context_resumes_from_what_another_left(rt: HostRuntime) -> Result<(), Fail>
     let (alloc, form) = (rt.alloc(), LongShortForm::Long);
     let setup = Setup::new(&rt, alloc)?;
     let before = setup.rendered("a")?.state;
-    let mut ctx = Context::resume(
-        alloc,
-        &setup.style,
-        setup.instance(),
-        Scope::Citation,
-        &before,
-    )?;
+    let mut ctx = setup.resumed(&before)?;
     assert_same(&rt, &ctx.first_name_properties().is_some(), &false);
     let dates = [
         ctx.peek_is_first_date(),
@@ -39,18 +33,9 @@ fn a_context_resumes_from_what_another_left(rt: HostRuntime) -> Result<(), Fail>
     let title = ctx.resolve_standard_variable(form, StandardVariable::Title)?;
     assert_same(&rt, &title.is_some(), &true);
     let left = ctx.finish()?.state;
-    let mut ctx = Context::resume(
-        alloc,
-        &setup.style,
-        setup.instance(),
-        Scope::Citation,
-        &left,
-    )?;
-    assert_same(
-        &rt,
-        &(ctx.peek_is_first_date(), ctx.is_first_date()),
-        &(false, false),
-    );
+    let mut ctx = setup.resumed(&left)?;
+    let dates = [ctx.peek_is_first_date(), ctx.is_first_date()];
+    assert_same(&rt, &dates, &[false, false]);
     let kept = ctx
         .first_name_properties()
         .map(|names| names.default_name_form());

@@ -187,18 +187,11 @@ fn numbers_of_the_citation_and_of_the_entry(rt: HostRuntime) -> Result<(), Fail>
 fn pages_texts_persons_and_dates(rt: HostRuntime) -> Result<(), Fail> {
     let alloc = rt.alloc();
     let book = book(&rt, alloc)?;
-    let props = properties(
-        &rt,
-        DisambiguateState::YearSuffix(0),
-        LocatorPayload::Transparent,
-    );
+    let suffix = DisambiguateState::YearSuffix(0);
+    let props = properties(&rt, suffix, LocatorPayload::Transparent);
     let cite = cite_of(&book, &props).clone()?;
-    let kinds = (cite.sorting, cite.kind);
-    assert_same(
-        &rt,
-        &kinds,
-        &(Some(Sorting::Macro), Some(SpecialForm::SuppressAuthor)),
-    );
+    assert_same(&rt, &cite.sorting, &Some(Sorting::Macro));
+    assert_same(&rt, &cite.kind, &Some(SpecialForm::SuppressAuthor));
     let (page, form) = (PageVariable::Page, LongShortForm::Long);
     let pages = MaybeTyped::Typed(PageRanges::parse(alloc, "7-9")?);
     assert!(rt;
@@ -220,12 +213,8 @@ fn pages_texts_persons_and_dates(rt: HostRuntime) -> Result<(), Fail> {
         let text = cite
             .resolve_standard_variable(alloc, form, variable)?
             .expect(&rt, "a text");
-        assert_of(
-            &rt,
-            &text.as_ref().to_text(alloc)?.as_str(),
-            &wanted,
-            variable,
-        );
+        let words = text.as_ref().to_text(alloc)?;
+        assert_of(&rt, &words.as_str(), &wanted, variable);
         let lent = cite.lend_text(alloc, form, variable)?.expect(&rt, "a text");
         assert_of(&rt, &lent.is_white_space(), &false, variable);
     }

@@ -80,11 +80,8 @@ fn table(rt: &impl Abort, alloc: Global) -> Result<Table, Fail> {
     let mut table = Table::new(alloc);
     let title = (StandardVariable::Title, FormatString::plain(alloc, " ")?);
     put(rt, &mut table.texts, title);
-    put(
-        rt,
-        &mut table.names,
-        (NameVariable::Author, person(rt, alloc, "Ann")?),
-    );
+    let author = (NameVariable::Author, person(rt, alloc, "Ann")?);
+    put(rt, &mut table.names, author);
     table.pages = Some(pages(alloc, "7-9")?);
     Ok(table)
 }
@@ -125,18 +122,14 @@ fn texts_are_lent_to_ask_about_them(rt: HostRuntime) -> Result<(), Fail> {
     let alloc = rt.alloc();
     let (article, table) = (article(&rt, alloc)?, table(&rt, alloc)?);
     let kept = Snapshot::new(alloc, &article, &named(alloc)?)?;
-    assert_cases(
-        &rt,
-        alloc,
-        TEXTS,
-        &|name| {
-            let variable = StandardVariable::from_name(name).expect(&rt, "a variable");
-            let of_article = lent_text(&rt, alloc, &article, variable);
-            let of_snapshot = lent_text(&rt, alloc, &kept, variable);
-            let of_table = lent_text(&rt, alloc, &table, variable);
-            format!(in alloc; "{of_article}, {of_snapshot}, {of_table}").expect(&rt, "memory")
-        },
-    );
+    let answer = |name: &str| {
+        let variable = StandardVariable::from_name(name).expect(&rt, "a variable");
+        let of_article = lent_text(&rt, alloc, &article, variable);
+        let of_snapshot = lent_text(&rt, alloc, &kept, variable);
+        let of_table = lent_text(&rt, alloc, &table, variable);
+        format!(in alloc; "{of_article}, {of_snapshot}, {of_table}").expect(&rt, "memory")
+    };
+    assert_cases(&rt, alloc, TEXTS, &answer);
     Ok(())
 }
 
@@ -217,17 +210,13 @@ fn an_entry_has_persons_or_none(rt: HostRuntime) -> Result<(), Fail> {
     let alloc = rt.alloc();
     let (article, table) = (article(&rt, alloc)?, table(&rt, alloc)?);
     let kept = Snapshot::new(alloc, &article, &named(alloc)?)?;
-    assert_cases(
-        &rt,
-        alloc,
-        PERSONS,
-        &|name| {
-            let variable = NameVariable::from_name(name).expect(&rt, "a variable");
-            let of_article = article.has_persons(alloc, variable).expect(&rt, "memory");
-            let of_snapshot = kept.has_persons(alloc, variable).expect(&rt, "memory");
-            let of_table = table.has_persons(alloc, variable).expect(&rt, "memory");
-            format!(in alloc; "{of_article} {of_snapshot} {of_table}").expect(&rt, "memory")
-        },
-    );
+    let answer = |name: &str| {
+        let variable = NameVariable::from_name(name).expect(&rt, "a variable");
+        let of_article = article.has_persons(alloc, variable).expect(&rt, "memory");
+        let of_snapshot = kept.has_persons(alloc, variable).expect(&rt, "memory");
+        let of_table = table.has_persons(alloc, variable).expect(&rt, "memory");
+        format!(in alloc; "{of_article} {of_snapshot} {of_table}").expect(&rt, "memory")
+    };
+    assert_cases(&rt, alloc, PERSONS, &answer);
     Ok(())
 }

@@ -32,10 +32,11 @@ fn letter_of(form: Option<Form>) -> char {
 /// third of the author once more. Each word is a list, with a letter for each name, and `.` is a list
 /// without names.
 fn properties(
+    rt: &impl Abort,
     alloc: Global,
     default: Form,
     lists: &str,
-) -> Result<NameDisambiguationProperties, Fail> {
+) -> NameDisambiguationProperties {
     let variables = [
         NameVariable::Author,
         NameVariable::Editor,
@@ -46,13 +47,13 @@ fn properties(
         let mut forms = Vec::new(alloc);
         for letter in list.chars() {
             if letter != '.' {
-                forms.push(form_of(letter))?;
+                put(rt, &mut forms, form_of(letter));
             }
         }
-        name_forms.push(forms)?;
+        put(rt, &mut name_forms, forms);
     }
-    let variables = Vec::from_array(alloc, variables)?;
-    Ok(NameDisambiguationProperties::new(default, variables, name_forms))
+    let variables = Vec::from_array(alloc, variables).expect(rt, "memory");
+    NameDisambiguationProperties::new(default, variables, name_forms)
 }
 
 /// The default form and each list, as letters.
@@ -72,7 +73,7 @@ fn letters_of(rt: &impl Abort, alloc: Global, properties: &NameDisambiguationPro
 
 #[test]
 fn copies_are_equal(rt: HostRuntime) -> Result<(), Fail> {
-    let author = properties(rt.alloc(), Form::ShortFull, "S- L . c").expect(&rt, "memory");
+    let author = properties(&rt, rt.alloc(), Form::ShortFull, "S- L . c");
     assert!(rt; author.clone(rt.alloc())? == author, "of the author");
     Ok(())
 }
@@ -90,20 +91,15 @@ const ADDITIONS: &str = "
 #[test]
 fn names_are_added_in_the_first_list_of_so_many(rt: HostRuntime) {
     let alloc = rt.alloc();
-    assert_cases(
-        &rt,
-        alloc,
-        ADDITIONS,
-        &|case| {
-            let (count, lists) = case.split_once(':').expect(&rt, "a number");
-            let count = count.parse::<usize>().ok().expect(&rt, "a number");
-            let properties = properties(alloc, Form::LongFull, lists);
-            let mut properties = properties.expect(&rt, "memory");
-            let is_there = properties.add_name(count);
-            let letters = letters_of(&rt, alloc, &properties);
-            format!(in alloc; "{letters} {is_there}").expect(&rt, "memory")
-        },
-    );
+    let answer = |case: &str| {
+        let (count, lists) = case.split_once(':').expect(&rt, "a number");
+        let count = count.parse::<usize>().ok().expect(&rt, "a number");
+        let mut properties = properties(&rt, alloc, Form::LongFull, lists);
+        let is_there = properties.add_name(count);
+        let letters = letters_of(&rt, alloc, &properties);
+        format!(in alloc; "{letters} {is_there}").expect(&rt, "memory")
+    };
+    assert_cases(&rt, alloc, ADDITIONS, &answer);
 }
 
 /// A variable, places, lists, and the default form with the lists after the call and its answer, or
@@ -122,28 +118,23 @@ author 0: . S - => not allowed
 #[test]
 fn names_of_the_variable_are_disambiguated(rt: HostRuntime) {
     let alloc = rt.alloc();
-    assert_cases(
-        &rt,
-        alloc,
-        LISTS,
-        &|case| {
-            let (head, lists) = case.split_once(':').expect(&rt, "lists");
-            let (name, digits) = head.split_once(' ').expect(&rt, "places");
-            let variable = NameVariable::from_name(name).expect(&rt, "a variable");
-            let mut places: Vec<usize> = Vec::new(alloc);
-            for digit in digits.chars() {
-                put(&rt, &mut places, if digit == '0' { 0 } else { 1 });
-            }
-            let properties = properties(alloc, Form::ShortFull, lists);
-            let mut properties = properties.expect(&rt, "memory");
-            if !properties.can_disambiguate(variable, &places) {
-                return string(&rt, alloc, "not allowed");
-            }
-            let is_changed = properties.disambiguate_list(variable, &places);
-            let letters = letters_of(&rt, alloc, &properties);
-            format!(in alloc; "{letters} {is_changed}").expect(&rt, "memory")
-        },
-    );
+    let answer = |case: &str| {
+        let (head, lists) = case.split_once(':').expect(&rt, "lists");
+        let (name, digits) = head.split_once(' ').expect(&rt, "places");
+        let variable = NameVariable::from_name(name).expect(&rt, "a variable");
+        let mut places: Vec<usize> = Vec::new(alloc);
+        for digit in digits.chars() {
+            put(&rt, &mut places, if digit == '0' { 0 } else { 1 });
+        }
+        let mut properties = properties(&rt, alloc, Form::ShortFull, lists);
+        if !properties.can_disambiguate(variable, &places) {
+            return string(&rt, alloc, "not allowed");
+        }
+        let is_changed = properties.disambiguate_list(variable, &places);
+        let letters = letters_of(&rt, alloc, &properties);
+        format!(in alloc; "{letters} {is_changed}").expect(&rt, "memory")
+    };
+    assert_cases(&rt, alloc, LISTS, &answer);
     // Initials stay so, unless given names may be written out.
     let fuller = [false, true].map(|full| Form::LongInitialized.disambiguate(full));
     assert_same(&rt, &fuller, &[None, Some(Form::LongFull)]);
@@ -162,17 +153,13 @@ S / S - => L S -
 #[test]
 fn the_greater_shows_more_names_or_later_forms(rt: HostRuntime) {
     let alloc = rt.alloc();
-    assert_cases(
-        &rt,
-        alloc,
-        MAX,
-        &|case| {
-            let (first, second) = case.split_once(" / ").expect(&rt, "two");
-            let one = properties(alloc, Form::Count, first).expect(&rt, "memory");
-            let other = properties(alloc, Form::LongFull, second).expect(&rt, "memory");
-            letters_of(&rt, alloc, &one.max(other))
-        },
-    );
+    let answer = |case: &str| {
+        let (first, second) = case.split_once(" / ").expect(&rt, "two");
+        let one = properties(&rt, alloc, Form::Count, first);
+        let other = properties(&rt, alloc, Form::LongFull, second);
+        letters_of(&rt, alloc, &one.max(other))
+    };
+    assert_cases(&rt, alloc, MAX, &answer);
 }
 
 /// An index among all forms, lists, the form there, and the lists after a count replaced it. Where no
@@ -187,18 +174,13 @@ const FORMS: &str = "
 #[test]
 fn a_form_is_lent_at_its_place_or_the_default_one(rt: HostRuntime) {
     let alloc = rt.alloc();
-    assert_cases(
-        &rt,
-        alloc,
-        FORMS,
-        &|case| {
-            let (index, lists) = case.split_once(':').expect(&rt, "an index");
-            let index = index.parse::<usize>().ok().expect(&rt, "an index");
-            let properties = properties(alloc, Form::LongFull, lists);
-            let mut properties = properties.expect(&rt, "memory");
-            let form = letter_of(count_form(&mut properties, index));
-            let letters = letters_of(&rt, alloc, &properties);
-            format!(in alloc; "{form}, {letters}").expect(&rt, "memory")
-        },
-    );
+    let answer = |case: &str| {
+        let (index, lists) = case.split_once(':').expect(&rt, "an index");
+        let index = index.parse::<usize>().ok().expect(&rt, "an index");
+        let mut properties = properties(&rt, alloc, Form::LongFull, lists);
+        let form = letter_of(count_form(&mut properties, index));
+        let letters = letters_of(&rt, alloc, &properties);
+        format!(in alloc; "{form}, {letters}").expect(&rt, "memory")
+    };
+    assert_cases(&rt, alloc, FORMS, &answer);
 }

@@ -104,21 +104,17 @@ i. the first => I. the First | I. the first | I. The First
 #[test]
 fn titles_have_their_cases(rt: HostRuntime) {
     let alloc = rt.alloc();
-    assert_cases(
-        &rt,
-        alloc,
-        TITLES,
-        &|text| {
-            let in_case = |case: &str| {
-                let source = format!(in alloc; "{{{case}|{text}|{case}}}").expect(&rt, "memory");
-                cased(&rt, alloc, source.as_str(), true)
-            };
-            let (title, sentence, all) = (in_case("t"), in_case("s"), in_case("a"));
-            assert_eq!(&rt; in_case("f").as_str(), sentence.as_str());
-            let titles = format!(in alloc; "{title} | {sentence} | {all}");
-            titles.expect(&rt, "memory")
-        },
-    );
+    let answer = |text: &str| {
+        let in_case = |case: &str| {
+            let source = format!(in alloc; "{{{case}|{text}|{case}}}").expect(&rt, "memory");
+            cased(&rt, alloc, source.as_str(), true)
+        };
+        let (title, sentence, all) = (in_case("t"), in_case("s"), in_case("a"));
+        assert_eq!(&rt; in_case("f").as_str(), sentence.as_str());
+        let titles = format!(in alloc; "{title} | {sentence} | {all}");
+        titles.expect(&rt, "memory")
+    };
+    assert_cases(&rt, alloc, TITLES, &answer);
 }
 
 /// Trees with marks of cases, and what they become.
@@ -235,12 +231,8 @@ const OTHER_LANGUAGES: &str = "
 fn texts_have_their_cases(rt: HostRuntime) {
     let alloc = rt.alloc();
     for (table, is_english) in [(TREES, true), (OTHER_LANGUAGES, false)] {
-        assert_cases(
-            &rt,
-            alloc,
-            table,
-            &|source| { cased(&rt, alloc, source, is_english) },
-        );
+        let answer = |source: &str| cased(&rt, alloc, source, is_english);
+        assert_cases(&rt, alloc, table, &answer);
     }
 }
 
@@ -267,15 +259,11 @@ Roe => Roe
 #[test]
 fn sort_keys_have_no_marks(rt: HostRuntime) {
     let alloc = rt.alloc();
-    assert_cases(
-        &rt,
-        alloc,
-        SORTED,
-        &|text| {
-            let text = marked(&rt, alloc, text);
-            without_case_marks(alloc, text.as_str()).expect(&rt, "memory")
-        },
-    );
+    let answer = |text: &str| {
+        let text = marked(&rt, alloc, text);
+        without_case_marks(alloc, text.as_str()).expect(&rt, "memory")
+    };
+    assert_cases(&rt, alloc, SORTED, &answer);
 }
 
 /// The marks of the cases, in pairs.

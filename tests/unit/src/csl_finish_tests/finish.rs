@@ -10,15 +10,10 @@ use std::process::Abort;
 
 /// A style of this language that prints nothing.
 pub(crate) fn style_of(rt: &impl Abort, alloc: Global, language: Language) -> Style {
-    let locale = language.locale(alloc).expect(rt, "memory");
-    let style = Style::new(
-        alloc,
-        StyleSettings::default(),
-        Vec::new(alloc),
-        Layout::new(Vec::new(alloc)),
-        None,
-        alone(rt, alloc, locale),
-    );
+    let locales = alone(rt, alloc, language.locale(alloc).expect(rt, "memory"));
+    let (settings, macros) = (StyleSettings::default(), Vec::new(alloc));
+    let citation = Layout::new(Vec::new(alloc));
+    let style = Style::new(alloc, settings, macros, citation, None, locales);
     style.expect(rt, "a style")
 }
 
@@ -140,15 +135,11 @@ fn marks_quotes_and_spaces(rt: HostRuntime) {
         (Language::German, GERMAN),
     ] {
         let style = style_of(&rt, alloc, language);
-        assert_cases(
-            &rt,
-            alloc,
-            table,
-            &|source| {
-                let mut tree = read(&rt, alloc, source);
-                finish(alloc, &style, &mut tree).expect(&rt, "memory");
-                describe(&rt, alloc, &tree)
-            },
-        );
+        let answer = |source: &str| {
+            let mut tree = read(&rt, alloc, source);
+            finish(alloc, &style, &mut tree).expect(&rt, "memory");
+            describe(&rt, alloc, &tree)
+        };
+        assert_cases(&rt, alloc, table, &answer);
     }
 }

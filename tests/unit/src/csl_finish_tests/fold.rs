@@ -30,10 +30,6 @@ P12 N => p12 n
 #[test]
 fn case_accents_and_punctuation_do_not_count(rt: HostRuntime) {
     let alloc = rt.alloc();
-    assert_cases(
-        &rt,
-        alloc,
-        FOLDED,
-        &|text| { fold(alloc, text).expect(&rt, "memory") },
-    );
+    let answer = |text: &str| fold(alloc, text).expect(&rt, "memory");
+    assert_cases(&rt, alloc, FOLDED, &answer);
 }

@@ -40,19 +40,15 @@ no date,P000002015,P000000990,N2147483634, => [3, 2, 1, 0]
 #[test]
 fn keys_sort_in_their_directions(rt: HostRuntime) {
     let alloc = rt.alloc();
-    assert_cases(
-        &rt,
-        alloc,
-        ORDERS,
-        &|lists| {
-            let mut keys = Vec::new(alloc);
-            for list in lists.strip_suffix(',').expect(&rt, "a list").split(',') {
-                put(&rt, &mut keys, keys_of(&rt, alloc, list));
-            }
-            let order = order_of(alloc, keys).expect(&rt, "memory");
-            format!(in alloc; "{order:?}").expect(&rt, "memory")
-        },
-    );
+    let answer = |lists: &str| {
+        let mut keys = Vec::new(alloc);
+        for list in lists.strip_suffix(',').expect(&rt, "a list").split(',') {
+            put(&rt, &mut keys, keys_of(&rt, alloc, list));
+        }
+        let order = order_of(alloc, keys).expect(&rt, "memory");
+        format!(in alloc; "{order:?}").expect(&rt, "memory")
+    };
+    assert_cases(&rt, alloc, ORDERS, &answer);
 }
 
 /// A text that the caller folded decides before the text itself.

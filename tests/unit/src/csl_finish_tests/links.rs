@@ -23,22 +23,14 @@ const HOSTS: &str = "
 #[test]
 fn links_that_stay(rt: HostRuntime) {
     let alloc = rt.alloc();
-    assert_cases(
-        &rt,
-        alloc,
-        WEB,
-        &|source| {
-            let tree = with_web_links(alloc, read(&rt, alloc, source));
-            describe(&rt, alloc, &tree.expect(&rt, "memory"))
-        },
-    );
-    assert_cases(
-        &rt,
-        alloc,
-        HOSTS,
-        &|source| {
-            let tree = with_links_to(alloc, read(&rt, alloc, source), &["x.y", "z"]);
-            describe(&rt, alloc, &tree.expect(&rt, "memory"))
-        },
-    );
+    let answer = |source: &str| {
+        let tree = with_web_links(alloc, read(&rt, alloc, source));
+        describe(&rt, alloc, &tree.expect(&rt, "memory"))
+    };
+    assert_cases(&rt, alloc, WEB, &answer);
+    let answer = |source: &str| {
+        let tree = with_links_to(alloc, read(&rt, alloc, source), &["x.y", "z"]);
+        describe(&rt, alloc, &tree.expect(&rt, "memory"))
+    };
+    assert_cases(&rt, alloc, HOSTS, &answer);
 }

@@ -54,11 +54,8 @@ pub(crate) fn read(rt: &impl Abort, alloc: Global, description: &str) -> ElemChi
     let mut children = Vec::new(alloc);
     for piece in description.split('|') {
         if piece == "[" {
-            put(
-                rt,
-                &mut around,
-                mem::replace(&mut children, Vec::new(alloc)),
-            );
+            let before = mem::replace(&mut children, Vec::new(alloc));
+            put(rt, &mut around, before);
         } else if piece == "]" {
             let outside = around.pop().expect(rt, "an element ends that began");
             let inside = mem::replace(&mut children, outside);

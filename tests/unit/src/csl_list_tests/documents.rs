@@ -22,11 +22,8 @@ fn authors(rt: &impl Abort, alloc: Global, names: &str) -> Vec<Person> {
     let mut persons = Vec::new(alloc);
     for name in names.split(" & ") {
         let (family, given) = name.split_once(", ").unwrap_or((name, ""));
-        put(
-            rt,
-            &mut persons,
-            Person::new(alloc, family, given).expect(rt, "memory"),
-        );
+        let person = Person::new(alloc, family, given);
+        put(rt, &mut persons, person.expect(rt, "memory"));
     }
     persons
 }

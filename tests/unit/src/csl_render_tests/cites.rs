@@ -11,37 +11,6 @@ use std::alloc::Global;
 use std::process::Abort;
 use std::test::Fail;
 
-/// A special form, and the plain text of the cite `(Kwan, 2014)` in it.
-static FORMS: [(SpecialForm, &str); 4] = [
-    (
-        SpecialForm::VarOnly(Variable::Name(NameVariable::Author)),
-        "(Kwan)",
-    ),
-    (
-        SpecialForm::VarOnly(Variable::Date(DateVariable::Issued)),
-        "(2014)",
-    ),
-    (SpecialForm::OnlyFirstDate, "(2014)"),
-    (SpecialForm::SuppressAuthor, "(2014)"),
-];
-
-/// A scope, the source of a sort key, and the key of names and year. Cites have the family names
-/// alone, the bibliography has whole names. A key of a macro has the date parts of its node, and one
-/// of a variable has all.
-static KEYS: [(Scope, Sorting, &str); 3] = [
-    (Scope::Citation, Sorting::Macro, "Kwan P000002014"),
-    (
-        Scope::Bibliography,
-        Sorting::Macro,
-        "Kwan, Kevin P000002014",
-    ),
-    (
-        Scope::Bibliography,
-        Sorting::Variable,
-        "Kwan, Kevin P0000020140000",
-    ),
-];
-
 fn crazy_rich(alloc: Global) -> Result<Entry, Memory> {
     let authors = vec![in alloc; Person::new(alloc, "Kwan", "Kevin")?]?;
     let book = Entry::titled(alloc, "crazy-rich", EntryType::Book, "Crazy Rich Asians")?
@@ -80,22 +49,35 @@ fn text_in(alloc: Global, style: &Style, entry: &Entry, form: SpecialForm) -> Re
 fn a_cite_in_a_special_form_has_a_part_of_it(rt: HostRuntime) -> Result<(), Fail> {
     let style = style(&rt, rt.alloc());
     let book = crazy_rich(rt.alloc())?;
-    for (form, wanted) in &FORMS {
-        let text = text_in(rt.alloc(), &style, &book, *form)?;
-        assert_eq!(rt; text.as_str(), *wanted);
+    let (author, issued) = (NameVariable::Author, DateVariable::Issued);
+    for (form, wanted) in [
+        (SpecialForm::VarOnly(Variable::Name(author)), "(Kwan)"),
+        (SpecialForm::VarOnly(Variable::Date(issued)), "(2014)"),
+        (SpecialForm::OnlyFirstDate, "(2014)"),
+        (SpecialForm::SuppressAuthor, "(2014)"),
+    ] {
+        let text = text_in(rt.alloc(), &style, &book, form)?;
+        assert_eq!(rt; text.as_str(), wanted);
     }
     Ok(())
 }
 
+/// Cites have the family names alone, the bibliography has whole names. A key of a macro has the date
+/// parts of its node, and one of a variable has all.
 #[test]
 fn a_sort_key_is_of_its_scope_and_its_source(rt: HostRuntime) -> Result<(), Fail> {
     let style = style(&rt, rt.alloc());
     let book = crazy_rich(rt.alloc())?;
     let key = style.bibliography().expect(&rt, "a layout");
     let first = CiteProperties::first(DisambiguateState::None);
-    for (scope, sorting, wanted) in &KEYS {
-        let text = sort_key(rt.alloc(), &style, &book, &first, key, *scope, *sorting)?;
-        assert_eq!(rt; text.as_str(), *wanted);
+    let (cites, works) = (Scope::Citation, Scope::Bibliography);
+    for (scope, sorting, wanted) in [
+        (cites, Sorting::Macro, "Kwan P000002014"),
+        (works, Sorting::Macro, "Kwan, Kevin P000002014"),
+        (works, Sorting::Variable, "Kwan, Kevin P0000020140000"),
+    ] {
+        let text = sort_key(rt.alloc(), &style, &book, &first, key, scope, sorting)?;
+        assert_eq!(rt; text.as_str(), wanted);
     }
     Ok(())
 }

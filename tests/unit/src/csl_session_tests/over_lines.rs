@@ -44,18 +44,10 @@ fn faults_have_replies(rt: HostRuntime) {
     assert_lines(&rt, alloc, b"{\"id\":\"\xff\"}\n", utf8);
     let long =
         "{\"error\":{\"at\":\"\",\"code\":\"too-large\",\"message\":\"the request is larger than is allowed\"},\"id\":null}\n";
-    assert_lines(
-        &rt,
-        alloc,
-        b"{\"id\":\"0123456789012345678901234567890123456789\"}\n",
-        long,
-    );
-    assert_lines(
-        &rt,
-        alloc,
-        b"{\"id\":\"0123456789012345678901234567890123456789\"}",
-        long,
-    );
+    let line = b"{\"id\":\"0123456789012345678901234567890123456789\"}\n";
+    for input in [&line[..], &line[..line.len() - 1]] {
+        assert_lines(&rt, alloc, input, long);
+    }
     for input in [
         &b"\n"[..],
         &b"{\"id\":\"\0\"}\n"[..],

@@ -42,19 +42,13 @@ fn nodes_have_their_texts_and_children(rt: HostRuntime) -> Result<(), Fail> {
     let words = alone(&rt, alloc, Text::value(alloc, " in press ")?.into());
     let group = Group::delimited(alloc, ", ", words)?;
     assert_text(&rt, group.delimiter.as_deref(), Some(", "));
-    assert_text(
-        &rt,
-        group.children.first().and_then(words_of),
-        Some(" in press "),
-    );
+    let inside = group.children.first().and_then(words_of);
+    assert_text(&rt, inside, Some(" in press "));
     let call = alone(&rt, alloc, Text::macro_call(alloc, " author ")?.into());
     let books = CslMacro::new(alloc, "books", call)?;
     assert_text(&rt, Some(books.name.as_str()), Some("books"));
-    assert_text(
-        &rt,
-        books.children.first().and_then(words_of),
-        Some(" author "),
-    );
+    let inside = books.children.first().and_then(words_of);
+    assert_text(&rt, inside, Some(" author "));
     Ok(())
 }
 
@@ -71,11 +65,8 @@ fn nodes_have_their_forms(rt: HostRuntime) -> Result<(), Fail> {
         }
     );
     assert_same(&rt, &is_singular, &true);
-    assert_same(
-        &rt,
-        &Label::new(NumberVariable::Volume.into()).label.form,
-        &TermForm::Long,
-    );
+    let volume = Label::new(NumberVariable::Volume.into());
+    assert_same(&rt, &volume.label.form, &TermForm::Long);
     let label = VariablelessLabel {
         form: TermForm::Verb,
         ..VariablelessLabel::default()
@@ -94,11 +85,8 @@ fn nodes_have_their_forms(rt: HostRuntime) -> Result<(), Fail> {
         ..Choose::new(alloc, ChooseBranch::new(Vec::new(alloc)))
     };
     let matches: Vec<ChooseMatch> = choose.branches().map(|it| it.match_).collect(alloc)?;
-    assert_same(
-        &rt,
-        &matches.as_slice(),
-        &[ChooseMatch::All, ChooseMatch::None].as_slice(),
-    );
+    let wanted = [ChooseMatch::All, ChooseMatch::None];
+    assert_same(&rt, &matches.as_slice(), &wanted.as_slice());
     Ok(())
 }
 
@@ -117,11 +105,8 @@ fn a_style_may_have_no_bibliography(rt: HostRuntime) -> Result<(), Fail> {
 fn terms_have_a_text_for_one_or_two(rt: HostRuntime) -> Result<(), Fail> {
     let alloc = rt.alloc();
     let by = TermEntry::new(alloc, OtherTerm::By.into(), TermForm::Long, "by")?;
-    assert_same(
-        &rt,
-        &(by.term, by.form),
-        &(Term::Other(OtherTerm::By), TermForm::Long),
-    );
+    assert_same(&rt, &by.term, &Term::Other(OtherTerm::By));
+    assert_same(&rt, &by.form, &TermForm::Long);
     assert_text(&rt, Some(by.text(true)), Some("by"));
     assert_text(&rt, by.multiple.as_deref(), None);
     let (term, short) = (Term::Number(NumberVariable::Volume), TermForm::Short);

@@ -20,28 +20,19 @@ fn options_have_their_defaults(rt: HostRuntime) {
     assert_same(&rt, &LabelPluralize::default(), &LabelPluralize::Contextual);
     assert_same(&rt, &DateParts::default(), &DateParts::YearMonthDay);
     assert_same(&rt, &NameForm::default(), &NameForm::Long);
-    assert_same(
-        &rt,
-        &DelimiterBehavior::default(),
-        &DelimiterBehavior::Contextual,
-    );
+    let contextual = DelimiterBehavior::Contextual;
+    assert_same(&rt, &DelimiterBehavior::default(), &contextual);
     assert_same(&rt, &ChooseMatch::default(), &ChooseMatch::All);
     assert_same(&rt, &LongShortForm::default(), &LongShortForm::Long);
     assert_same(&rt, &PageRangeFormat::default(), &PageRangeFormat::Expanded);
-    assert_same(
-        &rt,
-        &DemoteNonDroppingParticle::default(),
-        &display_and_sort,
-    );
+    let particle = DemoteNonDroppingParticle::default();
+    assert_same(&rt, &particle, &display_and_sort);
     assert_same(&rt, &EtAl::default().term, &OtherTerm::EtAl);
     assert_same(&rt, &VariablelessLabel::default().form, &TermForm::Long);
     let settings = StyleSettings::default();
     assert_same(&rt, &settings.page_range_format, &None);
-    assert_same(
-        &rt,
-        &settings.demote_non_dropping_particle,
-        &display_and_sort,
-    );
+    let particle = settings.demote_non_dropping_particle;
+    assert_same(&rt, &particle, &display_and_sort);
     assert_same(&rt, &settings.initialize_with_hyphen, &true);
 }
 

@@ -87,13 +87,8 @@ fn deeply_nested_nodes_drop(rt: HostRuntime) -> Result<(), Fail> {
 #[test]
 fn a_group_is_taken_apart_through_a_reference(rt: HostRuntime) -> Result<(), Fail> {
     let alloc = rt.alloc();
-    let mut node: LayoutRenderingElement = Group::new(nested_nodes(
-        &rt,
-        alloc,
-        "if",
-        1,
-        &["a"],
-    )?).into();
+    let children = nested_nodes(&rt, alloc, "if", 1, &["a"])?;
+    let mut node: LayoutRenderingElement = Group::new(children).into();
     let counts = [0, 1].map(|_| match &mut node {
         LayoutRenderingElement::Group(group) => {
             mem::replace(&mut group.children, Vec::new(alloc)).len()

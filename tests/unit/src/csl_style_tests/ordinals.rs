@@ -26,14 +26,9 @@ static ORDINALS: [(OrdinalSlot, Option<GrammarGender>, &str); 6] = [
 /// A locale of a term, and one of these ordinals.
 fn locales(rt: &impl Abort, alloc: Global) -> Result<Vec<Locale>, Fail> {
     let and = TermEntry::new(alloc, OtherTerm::And.into(), TermForm::Long, "and")?;
-    let mut locales = alone(
-        rt,
-        alloc,
-        Locale {
-            terms: alone(rt, alloc, and),
-            ..Locale::new(alloc)
-        },
-    );
+    let mut terms = Locale::new(alloc);
+    put(rt, &mut terms.terms, and);
+    let mut locales = alone(rt, alloc, terms);
     let mut locale = Locale::new(alloc);
     for (slot, gender, text) in &ORDINALS {
         let ordinal = OrdinalTerm {

@@ -2,7 +2,7 @@
 //! more, each number 24 before its text is made, the persons of an element their texts.
 
 use crate::assertions::{assert_of, assert_same, assert_text};
-use crate::shared::alone;
+use crate::shared::{alone, assert_cases};
 use crate::wire::json;
 use csl::literature::{EntryType, MaybeTyped, Numeric, PageRanges, Person};
 use csl::render::render_within;
@@ -59,64 +59,47 @@ fn rendered_under(
     (error, ctx.room())
 }
 
-/// Nodes, and the bytes that each takes: an element, 64; its numbers, and the texts that are made first;
-/// a leaf, 64, and its bytes.
-static TAKEN: [(&str, u64); 9] = [
-    // two numbers, and "2, 3"
-    (
-        r#"{"number": {"variable": "edition"}}"#,
-        64 + 2 * 24 + 64 + 4,
-    ),
-    (r#"{"text": {"variable": "edition"}}"#, 64 + 2 * 24 + 64 + 4),
-    // a number, "n", "a", and "n4a"
-    (
-        r#"{"number": {"variable": "volume"}}"#,
-        64 + 24 + 1 + 1 + 64 + 3,
-    ),
-    // a text in place of a number
-    (r#"{"text": {"variable": "issue"}}"#, 64 + 3 + 64 + 3),
-    // four pages and a comma, and four digits, two en dashes and ", "
-    (
-        r#"{"number": {"variable": "page"}}"#,
-        64 + 5 * 24 + 64 + 4 + 2 * 3 + 2,
-    ),
-    (
-        r#"{"text": {"variable": "page"}}"#,
-        64 + 5 * 24 + 64 + 4 + 2 * 3 + 2,
-    ),
-    // the value, and "ab"
-    (
-        r#"{"text": {"value": "a.b.", "strip-periods": true}}"#,
-        64 + 4 + 64 + 2,
-    ),
-    // an element of the name, "Kevin Kwan", and a person of 9 bytes
-    (
-        r#"{"names": {"variable": ["author"]}}"#,
-        64 + 64 + 64 + 10 + 9,
-    ),
-    // "K. Kwan", and five times the text after an initial
-    (
-        r#"{"names": {"variable": ["author"], "initialize-with": "."}}"#,
-        64 + 64 + 64 + 7 + 9 + 5,
-    ),
-];
+/// Nodes, and the bytes that each takes.
+const TAKEN: &str = r#"
+# an element, two numbers, and a leaf of "2, 3": 64 + 2 * 24 + 64 + 4
+{"number": {"variable": "edition"}} => 180
+{"text": {"variable": "edition"}} => 180
+# a number, "n", "a", and a leaf of "n4a": 64 + 24 + 1 + 1 + 64 + 3
+{"number": {"variable": "volume"}} => 157
+# a text in place of a number: 64 + 3 + 64 + 3
+{"text": {"variable": "issue"}} => 134
+# four pages and a comma, and four digits, two en dashes and ", ": 64 + 5 * 24 + 64 + 4 + 2 * 3 + 2
+{"number": {"variable": "page"}} => 260
+{"text": {"variable": "page"}} => 260
+# the value, and "ab": 64 + 4 + 64 + 2
+{"text": {"value": "a.b.", "strip-periods": true}} => 134
+# an element of the name, "Kevin Kwan", and a person of 9 bytes: 64 + 64 + 64 + 10 + 9
+{"names": {"variable": ["author"]}} => 211
+# "K. Kwan", and five times the text after an initial: 64 + 64 + 64 + 7 + 9 + 5
+{"names": {"variable": ["author"], "initialize-with": "."}} => 213
+"#;
 
 /// Each smaller limit refuses the node, at one push or another, and nothing is left then.
 #[test]
 fn nodes_take_bytes_before_they_are_made(rt: HostRuntime) -> Result<(), Fail> {
     let alloc = rt.alloc();
     let book = book(&rt, alloc)?;
-    for &(node, taken) in &TAKEN {
+    let answer = |node: &str| {
         let style = style_of_node(&rt, alloc, node);
-        for limit in 0..taken {
-            let found = rendered_under(&rt, alloc, &style, &book, limit);
+        let mut limit = 0;
+        let mut found = rendered_under(&rt, alloc, &style, &book, limit);
+        while found != (None, 0) {
             assert_of(&rt, &found, &(Some(RenderError::Memory), 0), limit);
+            limit += 1;
+            found = rendered_under(&rt, alloc, &style, &book, limit);
         }
-        for more in [0, 1, 1000] {
-            let found = rendered_under(&rt, alloc, &style, &book, taken + more);
+        for more in [1, 1000] {
+            let found = rendered_under(&rt, alloc, &style, &book, limit + more);
             assert_of(&rt, &found, &(None, more), node);
         }
-    }
+        format!(in alloc; "{limit}").expect(&rt, "memory")
+    };
+    assert_cases(&rt, alloc, TAKEN, &answer);
     Ok(())
 }
 

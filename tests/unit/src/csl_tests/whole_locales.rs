@@ -172,20 +172,16 @@ fn locale_by_name(alloc: Global, language: Language) -> Result<Locale, Memory> {
 #[test]
 fn languages_have_all_of_their_locales(rt: HostRuntime) {
     let alloc = rt.alloc();
-    assert_cases(
-        &rt,
-        alloc,
-        LANGUAGES,
-        &|tag| {
-            let language = Language::from_tag(tag).expect(&rt, "a language");
-            assert_same(&rt, &language.tag(), &tag);
-            let [locale, by_name] = [language.locale(alloc), locale_by_name(alloc, language)].map(
-                |locale| figures(&rt, alloc, &locale.expect(&rt, "memory")),
-            );
-            assert_same(&rt, &locale.as_str(), &by_name.as_str());
-            format!(in alloc; "{language:?} {locale}").expect(&rt, "memory")
-        },
-    );
+    let answer = |tag: &str| {
+        let language = Language::from_tag(tag).expect(&rt, "a language");
+        assert_same(&rt, &language.tag(), &tag);
+        let [locale, by_name] = [language.locale(alloc), locale_by_name(alloc, language)].map(
+            |locale| figures(&rt, alloc, &locale.expect(&rt, "memory")),
+        );
+        assert_same(&rt, &locale.as_str(), &by_name.as_str());
+        format!(in alloc; "{language:?} {locale}").expect(&rt, "memory")
+    };
+    assert_cases(&rt, alloc, LANGUAGES, &answer);
 }
 
 /// Texts, and the languages that they are tags of: in either case, with `_` for `-`, and without a
@@ -212,14 +208,10 @@ English => None
 #[test]
 fn tags_find_languages(rt: HostRuntime) {
     let alloc = rt.alloc();
-    assert_cases(
-        &rt,
-        alloc,
-        TAGS,
-        &|tag| {
-            let language = Language::from_tag(tag);
-            format!(in alloc; "{language:?}").expect(&rt, "memory")
-        },
-    );
+    let answer = |tag: &str| {
+        let language = Language::from_tag(tag);
+        format!(in alloc; "{language:?}").expect(&rt, "memory")
+    };
+    assert_cases(&rt, alloc, TAGS, &answer);
     assert_same(&rt, &Language::from_tag(""), &None);
 }

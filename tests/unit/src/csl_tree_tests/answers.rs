@@ -120,12 +120,8 @@ fn assert_leaves(rt: &impl Abort, alloc: Global, html: &str, wanted: Option<&str
 #[test]
 fn ten_thousand_elements_are_read(rt: HostRuntime) -> Result<(), Fail> {
     for (ends, wanted) in [(9_999, None), (10_000, Some("x")), (10_001, None)] {
-        assert_leaves(
-            &rt,
-            rt.alloc(),
-            deep_html(rt.alloc(), ends)?.as_str(),
-            wanted,
-        );
+        let html = deep_html(rt.alloc(), ends)?;
+        assert_leaves(&rt, rt.alloc(), html.as_str(), wanted);
     }
     Ok(())
 }

@@ -93,12 +93,8 @@ fn the_calls_of_a_script_build_a_tree(rt: HostRuntime) -> Result<(), Fail> {
     let alloc = rt.alloc();
     for (script, wanted, taken) in &CALLS {
         let tree = tree_of(&rt, alloc, *script)?;
-        assert_of(
-            &rt,
-            &(tree.depth(), tree.room()),
-            &(1, 1000 - *taken),
-            *script,
-        );
+        let left = (tree.depth(), tree.room());
+        assert_of(&rt, &left, &(1, 1000 - *taken), *script);
         assert_tree(&rt, alloc, &tree.finish()?, *wanted, *script)?;
     }
     Ok(())
@@ -162,11 +158,6 @@ fn a_call_beyond_the_limit_leaves_the_content(rt: HostRuntime) -> Result<(), Fai
     assert_same(&rt, &tree.close_elem(None, None).is_ok(), &false);
     tree.limit(64);
     tree.close_elem(None, None)?;
-    assert_tree(
-        &rt,
-        alloc,
-        &tree.finish()?,
-        "a ( b )",
-        "an element of 64 bytes",
-    )
+    let (tree, of) = (tree.finish()?, "an element of 64 bytes");
+    assert_tree(&rt, alloc, &tree, "a ( b )", of)
 }

@@ -111,11 +111,8 @@ pub fn read(rt: &impl Abort, alloc: Global, description: &str) -> Result<ElemChi
     let mut children = Vec::new(alloc);
     for word in description.split(' ') {
         if word == "(" {
-            put(
-                rt,
-                &mut around,
-                mem::replace(&mut children, Vec::new(alloc)),
-            );
+            let before = mem::replace(&mut children, Vec::new(alloc));
+            put(rt, &mut around, before);
         } else if let Some(end) = word.strip_prefix(')') {
             let outside = around.pop().expect(rt, "an element ends that began");
             let inside = mem::replace(&mut children, outside);

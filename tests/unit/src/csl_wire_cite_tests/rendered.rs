@@ -90,12 +90,8 @@ fn work_of_the_page(rt: HostRuntime) {
     let style = style_of(alloc, &json(&rt, alloc, STYLE), Limits::of_strangers());
     let style = style.expect(&rt, "a style");
     let entry = read_entry(&rt, alloc, WORK).expect(&rt, "a work");
-    assert_cases(
-        &rt,
-        alloc,
-        CITES,
-        &|text| { cite_text(&rt, alloc, &style, &entry, text) },
-    );
+    let answer = |text: &str| cite_text(&rt, alloc, &style, &entry, text);
+    assert_cases(&rt, alloc, CITES, &answer);
     let first = CiteProperties::first(DisambiguateState::None);
     let line = bibliography_entry(alloc, &style, &entry, &first).expect(&rt, "memory");
     let content = line.expect(&rt, "a line").content;

@@ -1,8 +1,8 @@
 //! What the variables of a work are read as, and why works are refused.
 
 use crate::csl_wire_cite_tests::reading::{answer_to, read_entry};
-use crate::shared::{assert_cases, string};
-use crate::wire::told;
+use crate::shared::assert_cases;
+use crate::wire::refusal_of;
 
 /// A variable with its value, and what the work answers: texts in both forms, by their pieces; numbers
 /// and pages, and texts in their place; persons as `family|given|prefix|suffix`; and dates, with months
@@ -130,25 +130,17 @@ submitted {"issued": {"year": 2014}} =>
 #[test]
 fn answers(rt: HostRuntime) {
     let alloc = rt.alloc();
-    assert_cases(
-        &rt,
-        alloc,
-        ANSWERS,
-        &|case| {
-            let (name, value) = case.split_once(' ').expect(&rt, "a variable");
-            let variables = format!(in alloc; "{{\"{name}\": {value}}}").expect(&rt, "memory");
-            answer_to(&rt, alloc, name, variables.as_str())
-        },
-    );
-    assert_cases(
-        &rt,
-        alloc,
-        AMONG_OTHERS,
-        &|case| {
-            let (name, variables) = case.split_once(' ').expect(&rt, "a variable");
-            answer_to(&rt, alloc, name, variables)
-        },
-    );
+    let answer = |case: &str| {
+        let (name, value) = case.split_once(' ').expect(&rt, "a variable");
+        let variables = format!(in alloc; "{{\"{name}\": {value}}}").expect(&rt, "memory");
+        answer_to(&rt, alloc, name, variables.as_str())
+    };
+    assert_cases(&rt, alloc, ANSWERS, &answer);
+    let answer = |case: &str| {
+        let (name, variables) = case.split_once(' ').expect(&rt, "a variable");
+        answer_to(&rt, alloc, name, variables)
+    };
+    assert_cases(&rt, alloc, AMONG_OTHERS, &answer);
 }
 
 /// Works that are refused before their variables are read.
@@ -170,15 +162,6 @@ null => wrong-type: an object goes here
 #[test]
 fn refused_works(rt: HostRuntime) {
     let alloc = rt.alloc();
-    assert_cases(
-        &rt,
-        alloc,
-        REFUSALS,
-        &|text| {
-            match read_entry(&rt, alloc, text) {
-                Ok(_) => string(&rt, alloc, "read"),
-                Err(error) => told(&rt, alloc, error),
-            }
-        },
-    );
+    let answer = |text: &str| refusal_of(&rt, alloc, read_entry(&rt, alloc, text));
+    assert_cases(&rt, alloc, REFUSALS, &answer);
 }

@@ -117,14 +117,10 @@ fn unknown_works(rt: HostRuntime) {
     let value = json(&rt, alloc, UNKNOWN);
     let document = document_of(alloc, &value, DocumentLimits::of_strangers());
     let document = document.expect(&rt, "a document");
-    assert_cases(
-        &rt,
-        alloc,
-        REFUSALS,
-        &|index| {
-            let index = index.parse::<usize>().ok().expect(&rt, "an index");
-            let error = document.works[index].unknown(alloc, &["roe", "baker"]);
-            told(&rt, alloc, error)
-        },
-    );
+    let answer = |index: &str| {
+        let index = index.parse::<usize>().ok().expect(&rt, "an index");
+        let error = document.works[index].unknown(alloc, &["roe", "baker"]);
+        told(&rt, alloc, error)
+    };
+    assert_cases(&rt, alloc, REFUSALS, &answer);
 }

@@ -1,81 +1,38 @@
 //! How large the options and the documents of a stranger may be.
 
 use crate::shared::{assert_cases, repeated};
-use crate::wire::{Bound, assert_bounds, json, told};
+use crate::wire::{assert_bounds, json, refusal_of};
 use csl_wire_list::{DocumentLimits, OptionLimits, citation_options_of, document_of};
 use std::alloc::Global;
 use std::process::Abort;
 
-static OPTIONS: [Bound; 4] = [
-    (
-        r#"{"layout": {"delimiter": "@"}}"#,
-        ",",
-        200,
-        "/layout/delimiter too-long: the text is too long",
-    ),
-    (
-        r#"{"year-suffix-delimiter": "@"}"#,
-        ",",
-        200,
-        "/year-suffix-delimiter too-long: the text is too long",
-    ),
-    (
-        r#"{"sort": [{"macro": "@"}]}"#,
-        ",",
-        200,
-        "/sort/0/macro too-long: the text is too long",
-    ),
-    (
-        r#"{"sort": [@{"macro": "a"}]}"#,
-        r#"{"macro": "a"}, "#,
-        19,
-        "/sort too-long: there are too many keys",
-    ),
-];
-
-/// What options of citations are refused for under limits; nothing if they are not.
-fn refusal_of_options(rt: &impl Abort, alloc: Global, text: &str, limits: OptionLimits) -> String {
-    match citation_options_of(alloc, &json(rt, alloc, text), limits) {
-        Ok(_) => String::new(alloc),
-        Err(error) => told(rt, alloc, error),
-    }
-}
+const OPTIONS: &str = r#"
+200 of , in {"layout": {"delimiter": "@"}} => /layout/delimiter too-long: the text is too long
+200 of , in {"year-suffix-delimiter": "@"} => /year-suffix-delimiter too-long: the text is too long
+200 of , in {"sort": [{"macro": "@"}]} => /sort/0/macro too-long: the text is too long
+19 of {"macro": "a"}, in {"sort": [@{"macro": "a"}]} => /sort too-long: there are too many keys
+"#;
 
 #[test]
 fn sizes_of_options(rt: HostRuntime) {
     let alloc = rt.alloc();
-    assert_bounds(
-        &rt,
-        alloc,
-        &OPTIONS,
-        &|text| {
-            let all = refusal_of_options(&rt, alloc, text, OptionLimits::none());
-            assert!(&rt; all.is_empty());
-            refusal_of_options(&rt, alloc, text, OptionLimits::of_strangers())
-        },
-    );
+    let answer = |text: &str| {
+        let value = json(&rt, alloc, text);
+        assert!(&rt; citation_options_of(alloc, &value, OptionLimits::none()).is_ok());
+        let read = citation_options_of(alloc, &value, OptionLimits::of_strangers());
+        refusal_of(&rt, alloc, read)
+    };
+    assert_bounds(&rt, alloc, OPTIONS, &answer);
 }
 
-static DOCUMENTS: [Bound; 3] = [
-    (
-        r#"{"citations": [{"items": [{"work": "a", "prefix": "@"}]}]}"#,
-        "7",
-        10_000,
-        "/citations/0/items/0/prefix too-long: the text is too long",
-    ),
-    (
-        r#"{"citations": [{"items": [{"work": "a", "suffix": "@"}]}]}"#,
-        "7",
-        10_000,
-        "/citations/0/items/0/suffix too-long: the text is too long",
-    ),
-    (
-        r#"{"citations": [{"items": [{"work": "a", "locator": {"label": "page", "value": "@"}}]}]}"#,
-        "7",
-        500,
-        "/citations/0/items/0/locator/value too-long: the text is too long",
-    ),
-];
+const DOCUMENTS: &str = r#"
+10000 of 7 in {"citations": [{"items": [{"work": "a", "prefix": "@"}]}]}
+  => /citations/0/items/0/prefix too-long: the text is too long
+10000 of 7 in {"citations": [{"items": [{"work": "a", "suffix": "@"}]}]}
+  => /citations/0/items/0/suffix too-long: the text is too long
+500 of 7 in {"citations": [{"items": [{"work": "a", "locator": {"label": "page", "value": "@"}}]}]}
+  => /citations/0/items/0/locator/value too-long: the text is too long
+"#;
 
 /// What a document is refused for under limits; nothing if it is not. Without limits it is read.
 fn refusal_of_document(
@@ -86,21 +43,14 @@ fn refusal_of_document(
 ) -> String {
     let value = json(rt, alloc, text);
     assert!(rt; document_of(alloc, &value, DocumentLimits::none()).is_ok());
-    match document_of(alloc, &value, limits) {
-        Ok(_) => String::new(alloc),
-        Err(error) => told(rt, alloc, error),
-    }
+    refusal_of(rt, alloc, document_of(alloc, &value, limits))
 }
 
 #[test]
 fn texts_of_documents(rt: HostRuntime) {
     let alloc = rt.alloc();
-    assert_bounds(
-        &rt,
-        alloc,
-        &DOCUMENTS,
-        &|text| { refusal_of_document(&rt, alloc, text, DocumentLimits::of_strangers()) },
-    );
+    let answer = |text: &str| refusal_of_document(&rt, alloc, text, DocumentLimits::of_strangers());
+    assert_bounds(&rt, alloc, DOCUMENTS, &answer);
 }
 
 /// Limits of few.
@@ -138,13 +88,9 @@ fn sized(rt: &impl Abort, alloc: Global, sizes: &str) -> String {
 #[test]
 fn sizes_of_documents(rt: HostRuntime) {
     let alloc = rt.alloc();
-    assert_cases(
-        &rt,
-        alloc,
-        SIZES,
-        &|sizes| {
-            let text = sized(&rt, alloc, sizes);
-            refusal_of_document(&rt, alloc, text.as_str(), FEW)
-        },
-    );
+    let answer = |sizes: &str| {
+        let text = sized(&rt, alloc, sizes);
+        refusal_of_document(&rt, alloc, text.as_str(), FEW)
+    };
+    assert_cases(&rt, alloc, SIZES, &answer);
 }

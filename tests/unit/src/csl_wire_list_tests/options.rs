@@ -66,12 +66,8 @@ const CITATIONS: &str = r#"
 #[test]
 fn options_of_citations(rt: HostRuntime) {
     let alloc = rt.alloc();
-    assert_cases(
-        &rt,
-        alloc,
-        CITATIONS,
-        &|text| { citation_options(&rt, alloc, text) },
-    );
+    let answer = |text: &str| citation_options(&rt, alloc, text);
+    assert_cases(&rt, alloc, CITATIONS, &answer);
 }
 
 /// Options of bibliographies, likewise.
@@ -111,12 +107,8 @@ const BIBLIOGRAPHIES: &str = r#"
 #[test]
 fn options_of_bibliographies(rt: HostRuntime) {
     let alloc = rt.alloc();
-    assert_cases(
-        &rt,
-        alloc,
-        BIBLIOGRAPHIES,
-        &|text| { bibliography_options(&rt, alloc, text) },
-    );
+    let answer = |text: &str| bibliography_options(&rt, alloc, text);
+    assert_cases(&rt, alloc, BIBLIOGRAPHIES, &answer);
 }
 
 /// Styles with their options: those of citations before a slash, and those of bibliographies after
@@ -152,12 +144,8 @@ const STYLES: &str = r#"
 #[test]
 fn styles_with_options(rt: HostRuntime) {
     let alloc = rt.alloc();
-    assert_cases(
-        &rt,
-        alloc,
-        STYLES,
-        &|text| options_of_style(&rt, alloc, text),
-    );
+    let answer = |text: &str| options_of_style(&rt, alloc, text);
+    assert_cases(&rt, alloc, STYLES, &answer);
 }
 
 /// Styles, and whether works are English by them that do not say so.

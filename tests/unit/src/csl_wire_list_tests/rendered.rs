@@ -95,12 +95,9 @@ fn assert_plain(rt: &impl Abort, alloc: Global, content: &ElemChildren, wanted: 
 #[test]
 fn document_of_the_page(rt: HostRuntime) {
     let alloc = rt.alloc();
-    let style = list_style_of(
-        alloc,
-        &json(&rt, alloc, STYLE),
-        OptionLimits::of_strangers(),
-    );
-    let list = list(&rt, alloc, &style.expect(&rt, "a style"));
+    let (value, strangers) = (json(&rt, alloc, STYLE), OptionLimits::of_strangers());
+    let style = list_style_of(alloc, &value, strangers).expect(&rt, "a style");
+    let list = list(&rt, alloc, &style);
     let wanted = ["(see Kwan 2014; Roe 2010)", "Kwan (2014: 7)", ""];
     for (citation, wanted) in list.citations.iter().zip(wanted) {
         assert_plain(&rt, alloc, &citation.content, wanted);

@@ -2,7 +2,7 @@
 
 use crate::csl_wire_tests::reading::{json, nodes_as_text, read_nodes, told};
 use crate::shared::{alone, assert_cases, repeated};
-use crate::wire::{Bound, assert_bounds};
+use crate::wire::{assert_bounds, refusal_of};
 use csl_elements::LayoutRenderingElement;
 use csl_wire::{Limits, nodes_of, value_of_text};
 use serde_json::{Map, Value};
@@ -10,39 +10,22 @@ use std::alloc::Global;
 use std::process::Abort;
 
 /// Texts of strangers: letters of one byte, and of two.
-static TEXTS: [Bound; 2] = [
-    (
-        r#"[{"text": {"value": "@"}}]"#,
-        "a",
-        200,
-        "/0/text/value too-long: the text is too long",
-    ),
-    (
-        r#"[{"text": {"value": "@"}}]"#,
-        "é",
-        100,
-        "/0/text/value too-long: the text is too long",
-    ),
-];
+const TEXTS: &str = r#"
+200 of a in [{"text": {"value": "@"}}] => /0/text/value too-long: the text is too long
+100 of é in [{"text": {"value": "@"}}] => /0/text/value too-long: the text is too long
+"#;
 
 #[test]
 fn texts_of_strangers_have_200_bytes(rt: HostRuntime) {
     let alloc = rt.alloc();
-    assert_bounds(
-        &rt,
-        alloc,
-        &TEXTS,
-        &|text| {
-            let value = json(&rt, alloc, text);
-            for limits in [Limits::none(), Limits { text: 202 }] {
-                assert!(&rt; nodes_of(alloc, &value, limits).is_ok());
-            }
-            match nodes_of(alloc, &value, Limits::of_strangers()) {
-                Ok(_) => String::new(alloc),
-                Err(error) => told(&rt, alloc, error),
-            }
-        },
-    );
+    let answer = |text: &str| {
+        let value = json(&rt, alloc, text);
+        for limits in [Limits::none(), Limits { text: 202 }] {
+            assert!(&rt; nodes_of(alloc, &value, limits).is_ok());
+        }
+        refusal_of(&rt, alloc, nodes_of(alloc, &value, Limits::of_strangers()))
+    };
+    assert_bounds(&rt, alloc, TEXTS, &answer);
 }
 
 /// A word of a refusal has at most 200 bytes too.
@@ -70,16 +53,12 @@ const NUMBERS: &str = "
 #[test]
 fn whole_numbers_below_two_to_the_32(rt: HostRuntime) {
     let alloc = rt.alloc();
-    assert_cases(
-        &rt,
-        alloc,
-        NUMBERS,
-        &|number| {
-            let before = r#"[{"names": {"variable": ["author"], "et-al-min": "#;
-            let text = format!(in alloc; "{before}{number}}}}}]").expect(&rt, "memory");
-            nodes_as_text(&rt, alloc, text.as_str())
-        },
-    );
+    let answer = |number: &str| {
+        let before = r#"[{"names": {"variable": ["author"], "et-al-min": "#;
+        let text = format!(in alloc; "{before}{number}}}}}]").expect(&rt, "memory");
+        nodes_as_text(&rt, alloc, text.as_str())
+    };
+    assert_cases(&rt, alloc, NUMBERS, &answer);
 }
 
 /// A list of groups in one another: so many lists of nodes, three levels of JSON each but the last.

@@ -82,10 +82,6 @@ const LOCALES: &str = r#"
 #[test]
 fn terms_ordinals_dates_and_options(rt: HostRuntime) {
     let alloc = rt.alloc();
-    assert_cases(
-        &rt,
-        alloc,
-        LOCALES,
-        &|text| locale_as_text(&rt, alloc, text),
-    );
+    let answer = |text: &str| locale_as_text(&rt, alloc, text);
+    assert_cases(&rt, alloc, LOCALES, &answer);
 }

@@ -218,10 +218,6 @@ const REFUSALS: &str = r#"
 #[test]
 fn refused_nodes(rt: HostRuntime) {
     let alloc = rt.alloc();
-    assert_cases(
-        &rt,
-        alloc,
-        REFUSALS,
-        &|text| { nodes_as_text(&rt, alloc, text) },
-    );
+    let answer = |text: &str| nodes_as_text(&rt, alloc, text);
+    assert_cases(&rt, alloc, REFUSALS, &answer);
 }

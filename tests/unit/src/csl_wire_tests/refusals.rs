@@ -1,7 +1,8 @@
 //! Refusals of styles and locales: the place as a JSON Pointer, the code and the words.
 
 use crate::csl_wire_tests::reading::{json, read_style, told};
-use crate::shared::{assert_cases, string};
+use crate::shared::assert_cases;
+use crate::wire::refusal_of;
 use csl_wire::{Code, Limits, Step, WireError, locale_of, value_of_text, within};
 
 const STYLES: &str = r#"
@@ -33,17 +34,8 @@ const STYLES: &str = r#"
 #[test]
 fn refused_styles(rt: HostRuntime) {
     let alloc = rt.alloc();
-    assert_cases(
-        &rt,
-        alloc,
-        STYLES,
-        &|text| {
-            match read_style(&rt, alloc, text) {
-                Ok(_) => string(&rt, alloc, "read"),
-                Err(error) => told(&rt, alloc, error),
-            }
-        },
-    );
+    let answer = |text: &str| refusal_of(&rt, alloc, read_style(&rt, alloc, text));
+    assert_cases(&rt, alloc, STYLES, &answer);
 }
 
 const LOCALES: &str = r#"
@@ -70,17 +62,11 @@ const LOCALES: &str = r#"
 #[test]
 fn refused_locales(rt: HostRuntime) {
     let alloc = rt.alloc();
-    assert_cases(
-        &rt,
-        alloc,
-        LOCALES,
-        &|text| {
-            match locale_of(alloc, &json(&rt, alloc, text), Limits::of_strangers()) {
-                Ok(_) => string(&rt, alloc, "read"),
-                Err(error) => told(&rt, alloc, error),
-            }
-        },
-    );
+    let answer = |text: &str| {
+        let value = json(&rt, alloc, text);
+        refusal_of(&rt, alloc, locale_of(alloc, &value, Limits::of_strangers()))
+    };
+    assert_cases(&rt, alloc, LOCALES, &answer);
 }
 
 /// Texts that are no JSON, and the lines where they go wrong.

@@ -75,17 +75,13 @@ const STYLES: &str = r#"
 #[test]
 fn settings_macros_and_layouts(rt: HostRuntime) {
     let alloc = rt.alloc();
-    assert_cases(
-        &rt,
-        alloc,
-        STYLES,
-        &|text| {
-            let read = read_style(&rt, alloc, text).expect(&rt, "a style");
-            let mut out = Description::new(&rt, alloc);
-            style(&mut out, &read);
-            out.into_text()
-        },
-    );
+    let answer = |text: &str| {
+        let read = read_style(&rt, alloc, text).expect(&rt, "a style");
+        let mut out = Description::new(&rt, alloc);
+        style(&mut out, &read);
+        out.into_text()
+    };
+    assert_cases(&rt, alloc, STYLES, &answer);
 }
 
 /// The locales of a style, one after another.
@@ -115,12 +111,8 @@ const LOCALES: &str = r#"
 #[test]
 fn locales_in_their_order(rt: HostRuntime) {
     let alloc = rt.alloc();
-    assert_cases(
-        &rt,
-        alloc,
-        LOCALES,
-        &|text| locales_as_text(&rt, alloc, text),
-    );
+    let answer = |text: &str| locales_as_text(&rt, alloc, text);
+    assert_cases(&rt, alloc, LOCALES, &answer);
 }
 
 /// A tag stands for CSL's own locale, in any letters, with or without a region. What a locale before

@@ -23,11 +23,8 @@ fn chunks_are_one_text(rt: HostRuntime) -> Result<(), Fail> {
     let alloc = rt.alloc();
     let title: ChunkedString = chunks(&rt, alloc, "On +$x^2+` and more");
     assert_same(&rt, &title.to_text(alloc)?.as_str(), &"On x^2 and more");
-    assert_same(
-        &rt,
-        &chunks(&rt, alloc, " +$\u{3000}").is_white_space(),
-        &true,
-    );
+    let blank = chunks(&rt, alloc, " +$\u{3000}");
+    assert_same(&rt, &blank.is_white_space(), &true);
     Ok(())
 }
 
@@ -66,17 +63,11 @@ fn a_work_is_searched_in_preorder(rt: HostRuntime) -> Result<(), Fail> {
     assert_same(&rt, &key.map(|key| key.as_str()), &Some("chapter"));
     let above = chapter.map(|entry| (entry.entry_type != EntryType::Chapter).then_some(&entry.key));
     assert_same(&rt, &above.map(|key| key.as_str()), &Some("book"));
-    assert_same(
-        &rt,
-        &chapter.date_any().map(|date| date.year()),
-        &Some(2002),
-    );
+    let year = chapter.date_any().map(|date| date.year());
+    assert_same(&rt, &year, &Some(2002));
     chapter.parents[0].parents[0].date = Some(Date::of_year(2001));
-    assert_same(
-        &rt,
-        &chapter.date_any().map(|date| date.year()),
-        &Some(2001),
-    );
+    let year = chapter.date_any().map(|date| date.year());
+    assert_same(&rt, &year, &Some(2001));
     Ok(())
 }
 
@@ -94,12 +85,8 @@ fn other_persons_are_not_the_same(rt: HostRuntime) -> Result<(), Fail> {
 #[test]
 fn one_number_is_a_value(rt: HostRuntime) -> Result<(), Fail> {
     for (text, wanted) in [("n4a", Some(4)), ("4-6, 9", None)] {
-        assert_of(
-            &rt,
-            &Numeric::parse(rt.alloc(), text)?.value(),
-            &wanted,
-            text,
-        );
+        let number = Numeric::parse(rt.alloc(), text)?;
+        assert_of(&rt, &number.value(), &wanted, text);
     }
     Ok(())
 }

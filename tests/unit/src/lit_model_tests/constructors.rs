@@ -45,6 +45,7 @@ fn values(rt: &impl Abort, alloc: Global, number: i32) -> Result<Values, Fail> {
     let page = PageRangesPart::SinglePage(Numeric::new(number));
     let mut publisher = Publisher::named(alloc, name.as_str())?;
     publisher.location = Some(FormatString::plain(alloc, name.as_str())?);
+    let journal = Entry::new(alloc, name.as_str(), EntryType::Periodical)?;
     Ok(Values {
         authors: alone(rt, alloc, Person::new(alloc, name.as_str(), "Ann")?),
         editors: alone(rt, alloc, Person::new(alloc, name.as_str(), "Eve")?),
@@ -60,11 +61,7 @@ fn values(rt: &impl Abort, alloc: Global, number: i32) -> Result<Values, Fail> {
             ranges: alone(rt, alloc, page),
         }),
         page_total: Numeric::new(number + 3),
-        parents: alone(
-            rt,
-            alloc,
-            Entry::new(alloc, name.as_str(), EntryType::Periodical)?,
-        ),
+        parents: alone(rt, alloc, journal),
     })
 }
 
@@ -176,13 +173,9 @@ fn new_values_have_what_they_are_given(rt: HostRuntime) -> Result<(), Fail> {
         "a name, and no place"
     );
     let kevin = Person::new(alloc, "Kwan", "Kevin")?;
-    assert!(rt;
-        kevin == kwan(alloc, Some(text(alloc, "Kevin")?))?,
-        "a person"
-    );
-    assert!(rt;
-        Person::institution(alloc, "Kwan")? == kwan(alloc, None)?,
-        "an institution"
-    );
+    let same = kwan(alloc, Some(text(alloc, "Kevin")?))?;
+    assert!(rt; kevin == same, "a person");
+    let institution = Person::institution(alloc, "Kwan")?;
+    assert!(rt; institution == kwan(alloc, None)?, "an institution");
     Ok(())
 }

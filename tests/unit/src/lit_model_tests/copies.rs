@@ -34,10 +34,8 @@ fn copied_numbers_and_pages_are_equal(rt: HostRuntime) -> Result<(), Fail> {
         if let MaybeTyped::Typed(pages) = &pages {
             assert!(rt; pages.clone(alloc)? == *pages, "of {spelled}");
             for part in &pages.ranges {
-                assert!(rt;
-                    PageRangesPart::clone(part, alloc)? == *part,
-                    "of {spelled}"
-                );
+                let copy = PageRangesPart::clone(part, alloc)?;
+                assert!(rt; copy == *part, "of {spelled}");
             }
         }
     }
@@ -66,10 +64,7 @@ fn copied_persons_and_roles_are_equal(rt: HostRuntime) -> Result<(), Fail> {
         names: vec![in alloc; junior, Person::institution(alloc, "UNESCO")?]?,
         role: PersonRole::Director,
     };
-    assert!(rt;
-        directors.clone(alloc)? == directors,
-        "of persons with a role"
-    );
+    assert!(rt; directors.clone(alloc)? == directors, "of a role");
     Ok(())
 }
 
@@ -84,11 +79,8 @@ fn copied_texts_and_sources_are_equal(rt: HostRuntime) -> Result<(), Fail> {
     let long = ChunkedString::clone(&title.value, alloc)?;
     assert!(rt; long == title.value, "of its long form");
     for chunk in &title.value.0 {
-        assert!(rt;
-            StringChunk::clone(chunk, alloc)? == *chunk,
-            "of {}",
-            chunk.value
-        );
+        let copy = StringChunk::clone(chunk, alloc)?;
+        assert!(rt; copy == *chunk, "of {}", chunk.value);
     }
     let address = QualifiedUrl {
         value: Url::parse(alloc, "https://aeon.co/essays")?,

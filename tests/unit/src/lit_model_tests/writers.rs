@@ -26,21 +26,13 @@ impl Ordinals for Words {
 fn texts_of_numbers_and_pages(rt: HostRuntime) -> Result<(), Fail> {
     let alloc = rt.alloc();
     let number = Numeric::parse(alloc, "n4-6 ,9& 12a")?;
-    assert_written(
-        &rt,
-        alloc,
-        &|w: &mut Few| write!(w, "{number}"),
-        "n4-6, 9 & 12a",
-    );
+    let spelled = |w: &mut Few| write!(w, "{number}");
+    assert_written(&rt, alloc, &spelled, "n4-6, 9 & 12a");
     let sorted = |w: &mut Few| number.fmt_value(w, true);
     assert_written(&rt, alloc, &sorted, "0004-0006, 0009 & 0012");
     let pages = PageRanges::parse(alloc, "321–328 ,7& A9")?;
-    assert_written(
-        &rt,
-        alloc,
-        &|w: &mut Few| write!(w, "{pages}"),
-        "321-328, 7 & A9",
-    );
+    let spelled = |w: &mut Few| write!(w, "{pages}");
+    assert_written(&rt, alloc, &spelled, "321-328, 7 & A9");
     let few = Numeric::parse(alloc, "2, 21")?;
     for (form, wanted) in [
         (NumberForm::Numeric, "2, 21"),
