@@ -24,7 +24,7 @@ use crate::pieces::{push_entry, push_text, push_tree};
 use crate::position::{CitesSoFar, PlacedCite, Position};
 use crate::rendered::RenderedCitation;
 use crate::request::{CitationItem, CitationRequest, CitePurpose};
-use crate::told::{ToldCite, forms_of_cite};
+use crate::told::{ToldWorks, forms_at};
 use crate::told_names::put_added_names;
 use csl::Renderer;
 use csl_common::Memory;
@@ -327,7 +327,7 @@ fn positioned_cites<'a, 'd, T>(
     order: &[usize],
     works: &'a [T],
     identities: &[Identity],
-    told: &'a [ToldCite],
+    told: &'a ToldWorks,
     marked: &'a [Option<String>],
     so_far: &mut CitesSoFar<'d>,
 ) -> Result<Vec<PositionedCite<'a, 'd, T>>, Memory>
@@ -344,6 +344,7 @@ fn positioned_cites<'a, 'd, T>(
             note: request.note_number,
         });
         let identity = identities[item.work];
+        let place = identity.number.get() as usize;
         if !item.hidden {
             cites.push(PositionedCite {
                 item,
@@ -352,7 +353,7 @@ fn positioned_cites<'a, 'd, T>(
                 locator: locator_with_marks(item, marked.get(*index)),
                 position,
                 identity,
-                forms: forms_of_cite(told, identity.number.get() as usize, position.is_first),
+                forms: forms_at(told.cites(position.is_first), place),
             })?;
         }
     }
@@ -367,7 +368,7 @@ pub(crate) fn rendered_citation<'d, T: EntryLike>(
     style: &ListStyle,
     works: &[T],
     identities: &[Identity],
-    told: &[ToldCite],
+    told: &ToldWorks,
     request: &CitationRequest<'d>,
     so_far: &mut CitesSoFar<'d>,
 ) -> Result<RenderedCitation, ListError>
@@ -385,7 +386,7 @@ pub(crate) fn rendered_citation<'d, T: EntryLike>(
     let links = links_of(alloc, options, &cites)?;
     let formatting = Formatting::default().apply(style.style().citation().formatting);
     let mut content = unfinished_citation(alloc, renderer, options, formatting, &links, &cites)?;
-    put_added_names(alloc, &mut content, identities, told)?;
+    put_added_names(alloc, &mut content, &cites, told)?;
     if options.begins_with_capital {
         content = marked_capital(alloc, content)?;
     }

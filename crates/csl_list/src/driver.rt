@@ -20,7 +20,7 @@ use crate::position::CitesSoFar;
 use crate::rendered::{RenderedBibliography, RenderedCitation, RenderedList};
 use crate::request::CitationRequest;
 use crate::telling::telling_cites;
-use crate::told::{OrderedWorks, ToldCite, choices, told_cites};
+use crate::told::{OrderedWorks, ToldCite, ToldWorks, choices, told_works};
 use crate::year_suffix::year_suffixes;
 use csl::Renderer;
 use csl_common::Memory;
@@ -110,7 +110,7 @@ fn citations_of<T: EntryLike>(
     style: &ListStyle,
     works: &[T],
     identities: &[Identity],
-    told: &[ToldCite],
+    told: &ToldWorks,
     requests: &[CitationRequest<'_>],
 ) -> Result<Vec<RenderedCitation>, ListError>
     requires works { All (AreWorksThere (length works.now)) requests.now }
@@ -175,6 +175,44 @@ fn bibliography_of<T: EntryLike>(
     }))
 }
 
+/// The list of the works in this order.
+fn rendered_list<T: EntryLike>(
+    alloc: Global,
+    renderer: &mut Renderer<'_>,
+    style: &ListStyle,
+    works: &[T],
+    requests: &[CitationRequest<'_>],
+    order: &[usize],
+) -> Result<RenderedList, ListError>
+    requires order { All (λ work. work < length works.now) order.now }
+    requires works { All (AreWorksThere (length works.now)) requests.now }
+    ensures notes { IfOk result (λ list. map (λ citation. citation.note_number)
+        list.citations.items ≡ map (λ request. request.note_number) requests.now) }
+    ensures works { IfOk result (λ list. IfSome list.bibliography (λ bibliography.
+        map (λ item. item.work) bibliography.items.items ≡ order.now)) }
+    ensures numbers { IfOk result (λ list. IfSome list.bibliography (λ bibliography.
+        map (λ item. citation_number item.number) bibliography.items.items
+        ≡ range_with_len 0 (length bibliography.items.items))) }
+    ensures err { IfErr result IsListingError }
+{
+    let telling = telling_cites(alloc, requests, works.len())?;
+    let list = OrderedWorks {
+        works,
+        order,
+        telling: &telling,
+        is_english: style.is_english(),
+    };
+    let told = told_works(alloc, renderer, style.citation(), &list)?;
+    let identities = identities(alloc, renderer, style, &list, &told.telling)?;
+    let citations = citations_of(alloc, renderer, style, works, &identities, &told, requests)?;
+    let told = &told.telling;
+    let bibliography = bibliography_of(alloc, renderer, style, works, &identities, told, order)?;
+    Ok(RenderedList {
+        citations,
+        bibliography,
+    })
+}
+
 impl<'d> BibliographyDriver<'d> {
     /// A driver without citations and without a limit.
     pub fn new(alloc: Global) -> BibliographyDriver<'d>
@@ -188,8 +226,8 @@ impl<'d> BibliographyDriver<'d> {
     }
 
     /// The driver with a limit: the cites, works and sort keys of a list may write so many bytes in
-    /// all. Cites that are rendered to tell works apart count too: one of each work, in notes two,
-    /// and of works with equal cites one for each name that is added.
+    /// all. Cites that are rendered to tell works apart count too: one of each work, and of works
+    /// with equal cites up to five for each of their names. In notes it is twice as many.
     /// [`csl::context::Context::limit`] says what takes how many. Texts of the author around cites,
     /// and finishing, take none.
     pub fn limited(self, bytes: u64) -> BibliographyDriver<'d>
@@ -251,36 +289,7 @@ impl<'d> BibliographyDriver<'d> {
         let mut renderer = Renderer::new(style.style()).limited(self.limit);
         let requests = self.requests.as_slice();
         let order = listed_order(alloc, &mut renderer, style, works, requests, listed)?;
-        let telling = telling_cites(alloc, requests, works.len())?;
-        let in_order = OrderedWorks {
-            works,
-            order: &order,
-            telling: &telling,
-            is_english: style.is_english(),
-        };
-        let told = told_cites(alloc, &mut renderer, style.citation(), &in_order)?;
-        let identities = identities(alloc, &mut renderer, style, &in_order, &told)?;
-        let citations = citations_of(
-            alloc,
-            &mut renderer,
-            style,
-            works,
-            &identities,
-            &told,
-            requests,
-        )?;
-        let bibliography = bibliography_of(
-            alloc,
-            &mut renderer,
-            style,
-            works,
-            &identities,
-            &told,
-            &order,
-        )?;
-        Ok(RenderedList {
-            citations,
-            bibliography,
-        })
+        let list = rendered_list(alloc, &mut renderer, style, works, requests, &order)?;
+        Ok(list)
     }
 }

@@ -24,6 +24,7 @@ mod line_names;
 mod list_style;
 mod listed;
 mod locator;
+mod more_names;
 mod options;
 mod pieces;
 mod position;

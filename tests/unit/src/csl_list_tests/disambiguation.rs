@@ -104,11 +104,12 @@ static ROWS: [Row; 15] = [
         &["0", "1", "2", "3"],
         "(Jane Doe, 2014) / (M. Doe, 2014) / (John Doe, 2014) / (M. Doe, 2010) / ",
     ),
+    // names that initials do not tell apart stay as they are
     (
         (false, Some(GivenNameRule::AllNamesWithInitials), true),
         "does",
         &["0", "1", "2", "3"],
-        "(J. Doe, 2014a) / (M. Doe, 2014) / (J. Doe, 2014b) / (M. Doe, 2010) / ",
+        "(Doe, 2014a) / (M. Doe, 2014) / (Doe, 2014b) / (M. Doe, 2010) / ",
     ),
     (
         (false, Some(GivenNameRule::AllNames), false),
