@@ -14,6 +14,7 @@ use crate::cite::{citation_content, cite_content};
 use crate::collapse::{
     CiteLink, CitePart, delimiter_text, grouped_order, is_grouping, joint_at, links_of,
 };
+use crate::collation::Collation;
 use crate::error::ListError;
 use crate::identity::Identity;
 use crate::keys::printed_order;
@@ -296,8 +297,9 @@ fn unfinished_citation<T: EntryLike>(
 
 /// The indices of the cites of a citation in the order in which they are printed: by their keys,
 /// and then those of the same names together, if the style has it so.
-fn cite_order<T: EntryLike>(
+fn cite_order<T: EntryLike, C: Collation>(
     alloc: Global,
+    collation: &C,
     renderer: &mut Renderer<'_>,
     style: &ListStyle,
     works: &[T],
@@ -310,7 +312,7 @@ fn cite_order<T: EntryLike>(
     ensures err { IfErr result IsListingError }
 {
     let keys = style.citation_keys();
-    let order = printed_order(alloc, renderer, keys, works, identities, items)?;
+    let order = printed_order(alloc, collation, renderer, keys, works, identities, items)?;
     if !is_grouping(style.citation()) {
         return Ok(order);
     }
@@ -362,8 +364,9 @@ fn positioned_cites<'a, 'd, T>(
 }
 
 /// A citation of the document. The first cite may refer to the cite before it if that stands alone.
-pub(crate) fn rendered_citation<'d, T: EntryLike>(
+pub(crate) fn rendered_citation<'d, T: EntryLike, C: Collation>(
     alloc: Global,
+    collation: &C,
     renderer: &mut Renderer<'_>,
     style: &ListStyle,
     works: &[T],
@@ -378,7 +381,15 @@ pub(crate) fn rendered_citation<'d, T: EntryLike>(
     ensures err { IfErr result IsListingError }
 {
     let options = style.citation();
-    let order = cite_order(alloc, renderer, style, works, identities, &request.items)?;
+    let order = cite_order(
+        alloc,
+        collation,
+        renderer,
+        style,
+        works,
+        identities,
+        &request.items,
+    )?;
     let marked = marked_locators(alloc, &request.items)?;
     let cites = positioned_cites(
         alloc, request, &order, works, identities, told, &marked, so_far,

@@ -13,6 +13,7 @@ mod cases;
 mod citation;
 mod cite;
 mod collapse;
+mod collation;
 mod driver;
 mod equal;
 mod error;
@@ -37,6 +38,7 @@ mod told;
 mod told_names;
 mod year_suffix;
 
+pub use collation::Collation;
 pub use driver::BibliographyDriver;
 pub use error::ListError;
 pub use list_style::ListStyle;
