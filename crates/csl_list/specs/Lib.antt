@@ -5,6 +5,7 @@ pub mod CiteContent
 pub mod Collapse
 pub mod Driver
 pub mod Errors
+pub mod GivenNames
 pub mod Identity
 pub mod Listed
 pub mod ListStyle

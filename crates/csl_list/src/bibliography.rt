@@ -131,7 +131,7 @@ fn unfinished_fields<T: EntryLike>(
     work: &T,
     identity: Identity,
     forms: Option<&NameDisambiguationProperties>,
-    before: &mut NamesBefore,
+    before: &mut NamesBefore<'_>,
 ) -> Result<Fields, ListError>
     ensures content { options.now.author_substitute ≡ None
         → spec.has_names_beside identity (option_copied forms.entry) ≡ false
@@ -201,7 +201,7 @@ pub(crate) fn items<T: EntryLike>(
     ensures err { IfErr result IsListingError }
 {
     let formatting = affix_formatting(style.style());
-    let mut before = NamesBefore::new(alloc);
+    let mut before = NamesBefore::new(alloc, style.style());
     let mut items = Vec::with_capacity(alloc, order.len())?;
     for (place, index) in order.iter().enumerate() {
         let (work, number) = (&works[*index], number_at(place)?);

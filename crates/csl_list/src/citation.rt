@@ -14,6 +14,7 @@ use crate::cite::{citation_content, cite_content};
 use crate::collapse::{
     CiteLink, CitePart, delimiter_text, grouped_order, is_grouping, joint_at, links_of,
 };
+use crate::collation::Collation;
 use crate::error::ListError;
 use crate::identity::Identity;
 use crate::keys::printed_order;
@@ -24,7 +25,7 @@ use crate::pieces::{push_entry, push_text, push_tree};
 use crate::position::{CitesSoFar, PlacedCite, Position};
 use crate::rendered::RenderedCitation;
 use crate::request::{CitationItem, CitationRequest, CitePurpose};
-use crate::told::{ToldCite, forms_of_cite};
+use crate::told::{ToldWorks, forms_at};
 use crate::told_names::put_added_names;
 use csl::Renderer;
 use csl_common::Memory;
@@ -296,8 +297,9 @@ fn unfinished_citation<T: EntryLike>(
 
 /// The indices of the cites of a citation in the order in which they are printed: by their keys,
 /// and then those of the same names together, if the style has it so.
-fn cite_order<T: EntryLike>(
+fn cite_order<T: EntryLike, C: Collation>(
     alloc: Global,
+    collation: &C,
     renderer: &mut Renderer<'_>,
     style: &ListStyle,
     works: &[T],
@@ -310,7 +312,7 @@ fn cite_order<T: EntryLike>(
     ensures err { IfErr result IsListingError }
 {
     let keys = style.citation_keys();
-    let order = printed_order(alloc, renderer, keys, works, identities, items)?;
+    let order = printed_order(alloc, collation, renderer, keys, works, identities, items)?;
     if !is_grouping(style.citation()) {
         return Ok(order);
     }
@@ -327,7 +329,7 @@ fn positioned_cites<'a, 'd, T>(
     order: &[usize],
     works: &'a [T],
     identities: &[Identity],
-    told: &'a [ToldCite],
+    told: &'a ToldWorks,
     marked: &'a [Option<String>],
     so_far: &mut CitesSoFar<'d>,
 ) -> Result<Vec<PositionedCite<'a, 'd, T>>, Memory>
@@ -344,6 +346,7 @@ fn positioned_cites<'a, 'd, T>(
             note: request.note_number,
         });
         let identity = identities[item.work];
+        let place = identity.number.get() as usize;
         if !item.hidden {
             cites.push(PositionedCite {
                 item,
@@ -352,7 +355,7 @@ fn positioned_cites<'a, 'd, T>(
                 locator: locator_with_marks(item, marked.get(*index)),
                 position,
                 identity,
-                forms: forms_of_cite(told, identity.number.get() as usize, position.is_first),
+                forms: forms_at(told.cites(position.is_first), place),
             })?;
         }
     }
@@ -361,13 +364,14 @@ fn positioned_cites<'a, 'd, T>(
 }
 
 /// A citation of the document. The first cite may refer to the cite before it if that stands alone.
-pub(crate) fn rendered_citation<'d, T: EntryLike>(
+pub(crate) fn rendered_citation<'d, T: EntryLike, C: Collation>(
     alloc: Global,
+    collation: &C,
     renderer: &mut Renderer<'_>,
     style: &ListStyle,
     works: &[T],
     identities: &[Identity],
-    told: &[ToldCite],
+    told: &ToldWorks,
     request: &CitationRequest<'d>,
     so_far: &mut CitesSoFar<'d>,
 ) -> Result<RenderedCitation, ListError>
@@ -377,7 +381,15 @@ pub(crate) fn rendered_citation<'d, T: EntryLike>(
     ensures err { IfErr result IsListingError }
 {
     let options = style.citation();
-    let order = cite_order(alloc, renderer, style, works, identities, &request.items)?;
+    let order = cite_order(
+        alloc,
+        collation,
+        renderer,
+        style,
+        works,
+        identities,
+        &request.items,
+    )?;
     let marked = marked_locators(alloc, &request.items)?;
     let cites = positioned_cites(
         alloc, request, &order, works, identities, told, &marked, so_far,
@@ -385,7 +397,7 @@ pub(crate) fn rendered_citation<'d, T: EntryLike>(
     let links = links_of(alloc, options, &cites)?;
     let formatting = Formatting::default().apply(style.style().citation().formatting);
     let mut content = unfinished_citation(alloc, renderer, options, formatting, &links, &cites)?;
-    put_added_names(alloc, &mut content, identities, told)?;
+    put_added_names(alloc, &mut content, &cites, told)?;
     if options.begins_with_capital {
         content = marked_capital(alloc, content)?;
     }

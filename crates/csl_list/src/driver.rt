@@ -10,6 +10,7 @@ ghost use Rattle.csl_list.specs.Driver as spec;
 
 use crate::bibliography::items;
 use crate::citation::rendered_citation;
+use crate::collation::{Collation, Folded};
 use crate::error::ListError;
 use crate::identity::{Identity, identities_by};
 use crate::keys::{by_first_cites, by_keys};
@@ -20,7 +21,7 @@ use crate::position::CitesSoFar;
 use crate::rendered::{RenderedBibliography, RenderedCitation, RenderedList};
 use crate::request::CitationRequest;
 use crate::telling::telling_cites;
-use crate::told::{OrderedWorks, ToldCite, choices, told_cites};
+use crate::told::{OrderedWorks, ToldCite, ToldWorks, choices, told_works};
 use crate::year_suffix::year_suffixes;
 use csl::Renderer;
 use csl_common::Memory;
@@ -56,8 +57,9 @@ fn cited_order(
 /// The works of a list in their order: by the keys of the bibliography, else as they are first
 /// cited.
 #[tactic(auto, using(crate::proofs::Works::within_list, crate::proofs::Works::permuted_again, crate::proofs::Works::within_again))]
-fn listed_order<T: EntryLike>(
+fn listed_order<T: EntryLike, C: Collation>(
     alloc: Global,
+    collation: &C,
     renderer: &mut Renderer<'_>,
     style: &ListStyle,
     works: &[T],
@@ -75,7 +77,7 @@ fn listed_order<T: EntryLike>(
     if keys.is_empty() {
         return Ok(order);
     }
-    let order = by_keys(alloc, renderer, keys, works, &order)?;
+    let order = by_keys(alloc, collation, renderer, keys, works, &order)?;
     Ok(order)
 }
 
@@ -104,13 +106,14 @@ fn identities<T: EntryLike>(
 }
 
 /// The citations in the order in which they were asked for.
-fn citations_of<T: EntryLike>(
+fn citations_of<T: EntryLike, C: Collation>(
     alloc: Global,
+    collation: &C,
     renderer: &mut Renderer<'_>,
     style: &ListStyle,
     works: &[T],
     identities: &[Identity],
-    told: &[ToldCite],
+    told: &ToldWorks,
     requests: &[CitationRequest<'_>],
 ) -> Result<Vec<RenderedCitation>, ListError>
     requires works { All (AreWorksThere (length works.now)) requests.now }
@@ -125,6 +128,7 @@ fn citations_of<T: EntryLike>(
     for request in requests {
         let citation = rendered_citation(
             alloc,
+            collation,
             renderer,
             style,
             works,
@@ -175,6 +179,54 @@ fn bibliography_of<T: EntryLike>(
     }))
 }
 
+/// The list of the works in this order.
+fn rendered_list<T: EntryLike, C: Collation>(
+    alloc: Global,
+    collation: &C,
+    renderer: &mut Renderer<'_>,
+    style: &ListStyle,
+    works: &[T],
+    requests: &[CitationRequest<'_>],
+    order: &[usize],
+) -> Result<RenderedList, ListError>
+    requires order { All (λ work. work < length works.now) order.now }
+    requires works { All (AreWorksThere (length works.now)) requests.now }
+    ensures notes { IfOk result (λ list. map (λ citation. citation.note_number)
+        list.citations.items ≡ map (λ request. request.note_number) requests.now) }
+    ensures works { IfOk result (λ list. IfSome list.bibliography (λ bibliography.
+        map (λ item. item.work) bibliography.items.items ≡ order.now)) }
+    ensures numbers { IfOk result (λ list. IfSome list.bibliography (λ bibliography.
+        map (λ item. citation_number item.number) bibliography.items.items
+        ≡ range_with_len 0 (length bibliography.items.items))) }
+    ensures err { IfErr result IsListingError }
+{
+    let telling = telling_cites(alloc, requests, works.len())?;
+    let list = OrderedWorks {
+        works,
+        order,
+        telling: &telling,
+        is_english: style.is_english(),
+    };
+    let told = told_works(alloc, renderer, style.citation(), &list)?;
+    let identities = identities(alloc, renderer, style, &list, &told.telling)?;
+    let citations = citations_of(
+        alloc,
+        collation,
+        renderer,
+        style,
+        works,
+        &identities,
+        &told,
+        requests,
+    )?;
+    let told = &told.telling;
+    let bibliography = bibliography_of(alloc, renderer, style, works, &identities, told, order)?;
+    Ok(RenderedList {
+        citations,
+        bibliography,
+    })
+}
+
 impl<'d> BibliographyDriver<'d> {
     /// A driver without citations and without a limit.
     pub fn new(alloc: Global) -> BibliographyDriver<'d>
@@ -188,8 +240,8 @@ impl<'d> BibliographyDriver<'d> {
     }
 
     /// The driver with a limit: the cites, works and sort keys of a list may write so many bytes in
-    /// all. Cites that are rendered to tell works apart count too: one of each work, in notes two,
-    /// and of works with equal cites one for each name that is added.
+    /// all. Cites that are rendered to tell works apart count too: one of each work, and of works
+    /// with equal cites up to five for each of their names. In notes it is twice as many.
     /// [`csl::context::Context::limit`] says what takes how many. Texts of the author around cites,
     /// and finishing, take none.
     pub fn limited(self, bytes: u64) -> BibliographyDriver<'d>
@@ -247,40 +299,56 @@ impl<'d> BibliographyDriver<'d> {
             (spec.requests_of self.now)) }
         ensures refused { IfErr result (IsRefusal (length works.now) (spec.requests_of self.now)) }
     {
+        let list = self.finish_by(alloc, style, works, listed, &Folded)?;
+        Ok(list)
+    }
+
+    /// The same, with the keys of works and cites sorted by a collation of the caller.
+    ///
+    /// # Errors
+    /// As [`BibliographyDriver::finish`].
+    pub fn finish_by<T: EntryLike, C: Collation>(
+        &self,
+        alloc: Global,
+        style: &ListStyle,
+        works: &[T],
+        listed: ListedWorks,
+        collation: &C,
+    ) -> Result<RenderedList, ListError>
+        ensures notes { IfOk result (λ list. map (λ citation. citation.note_number)
+            list.citations.items
+            ≡ map (λ request. request.note_number) (spec.requests_of self.now)) }
+        ensures works { IfOk result (λ list. IfSome list.bibliography (λ bibliography. IsPermutation
+            (listed_works listed (cited_works (spec.requests_of self.now)) (length works.now))
+            (map (λ item. item.work) bibliography.items.items))) }
+        ensures numbers { IfOk result (λ list. IfSome list.bibliography (λ bibliography.
+            map (λ item. citation_number item.number) bibliography.items.items
+            ≡ range_with_len 0 (length bibliography.items.items))) }
+        ensures there { OnOk result (All (AreWorksThere (length works.now))
+            (spec.requests_of self.now)) }
+        ensures refused { IfErr result (IsRefusal (length works.now) (spec.requests_of self.now)) }
+    {
         check_works(&self.requests, works.len())?;
         let mut renderer = Renderer::new(style.style()).limited(self.limit);
         let requests = self.requests.as_slice();
-        let order = listed_order(alloc, &mut renderer, style, works, requests, listed)?;
-        let telling = telling_cites(alloc, requests, works.len())?;
-        let in_order = OrderedWorks {
-            works,
-            order: &order,
-            telling: &telling,
-            is_english: style.is_english(),
-        };
-        let told = told_cites(alloc, &mut renderer, style.citation(), &in_order)?;
-        let identities = identities(alloc, &mut renderer, style, &in_order, &told)?;
-        let citations = citations_of(
+        let order = listed_order(
             alloc,
+            collation,
             &mut renderer,
             style,
             works,
-            &identities,
-            &told,
             requests,
+            listed,
         )?;
-        let bibliography = bibliography_of(
+        let list = rendered_list(
             alloc,
+            collation,
             &mut renderer,
             style,
             works,
-            &identities,
-            &told,
+            requests,
             &order,
         )?;
-        Ok(RenderedList {
-            citations,
-            bibliography,
-        })
+        Ok(list)
     }
 }

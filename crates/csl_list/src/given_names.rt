@@ -3,12 +3,14 @@
 
 ghost use Rattle.std.specs.Prelude.{◌≡◌, ◌<◌, IfOk, length};
 ghost use Rattle.std.specs.List.{All};
+ghost use Rattle.csl_entry.specs.NameProperties.{name_properties};
+ghost use Rattle.csl_list.specs.GivenNames as spec;
 
 use crate::equal::first_equals;
 use crate::told::ToldCite;
 use csl::literature::Person;
 use csl_common::Memory;
-use csl_entry::EntryLike;
+use csl_entry::{DisambiguatedNameForm, EntryLike, NameDisambiguationProperties};
 use std::alloc::Global;
 
 /// A name of the first cite of a work.
@@ -16,20 +18,13 @@ use std::alloc::Global;
 pub(crate) struct CitedName {
     /// The place of the work in the list.
     pub place: usize,
-    /// The index of the name among the work's names.
-    pub name: usize,
     family: String,
     initials: String,
     given: String,
 }
 
 /// A person as a name of a cite.
-fn cited_name(
-    alloc: Global,
-    person: &Person,
-    place: usize,
-    name: usize,
-) -> Result<CitedName, Memory> {
+fn cited_name(alloc: Global, person: &Person, place: usize) -> Result<CitedName, Memory> {
     let mut initials = String::new(alloc);
     if person.initials(&mut initials, Some("."), true).is_err() {
         return Err(Memory);
@@ -40,7 +35,6 @@ fn cited_name(
     };
     Ok(CitedName {
         place,
-        name,
         family: String::from_str(alloc, person.name.as_str())?,
         initials,
         given: String::from_str(alloc, given)?,
@@ -65,7 +59,7 @@ fn push_names<T: EntryLike>(
     let persons = work.resolve_name_variable(alloc, variable)?;
     for (name, person) in persons.iter().enumerate() {
         if name == 0 || !is_primary {
-            names.push(cited_name(alloc, person.as_ref(), place, name)?)?;
+            names.push(cited_name(alloc, person.as_ref(), place)?)?;
         }
     }
     Ok(())
@@ -143,8 +137,27 @@ fn is_ambiguous(firsts: &[usize], ambiguous: &[bool], index: usize) -> bool {
     }
 }
 
-/// By how many steps each name is expanded: none, its initials, or the whole given name.
-pub(crate) fn steps_of_names(alloc: Global, names: &[CitedName]) -> Result<Vec<usize>, Memory>
+/// By how many steps a name is expanded: none, its initials, or the whole given name, if the rule
+/// has at most so many. A name stays as it is if it takes more to tell it apart.
+fn steps_needed(needs_initials: bool, needs_whole: bool, most: usize) -> usize
+    ensures { result ≡ spec.steps_needed needs_initials needs_whole most }
+{
+    let steps = if needs_whole {
+        2
+    } else if needs_initials {
+        1
+    } else {
+        0
+    };
+    if steps <= most { steps } else { 0 }
+}
+
+/// By how many steps each name is expanded, of at most so many.
+pub(crate) fn steps_of_names(
+    alloc: Global,
+    names: &[CitedName],
+    most: usize,
+) -> Result<Vec<usize>, Memory>
     ensures { IfOk result (λ steps. length steps.items ≡ length names.now) }
 {
     let by_family = first_equal_names(alloc, names, false)?;
@@ -153,15 +166,35 @@ pub(crate) fn steps_of_names(alloc: Global, names: &[CitedName]) -> Result<Vec<u
     let initials = are_ambiguous(alloc, names, &by_initials)?;
     let mut steps = Vec::with_capacity(alloc, names.len())?;
     for (index, _name) in names.iter().enumerate() {
-        let needs_whole = is_ambiguous(&by_initials, &initials, index);
         let needs_initials = is_ambiguous(&by_family, &families, index);
-        steps.push(if needs_whole {
-            2
-        } else if needs_initials {
-            1
-        } else {
-            0
-        })?;
+        let needs_whole = is_ambiguous(&by_initials, &initials, index);
+        steps.push(steps_needed(needs_initials, needs_whole, most))?;
     }
     Ok(steps)
+}
+
+/// By how many steps from this form of the style a name is expanded that needs so many. A form that
+/// has initials already needs one less. A rule of one step needs a form that has some.
+fn steps_from(form: DisambiguatedNameForm, steps: usize, most: usize) -> usize
+    ensures { result ≡ spec.steps_from form steps most }
+{
+    match form {
+        DisambiguatedNameForm::ShortInitialized => steps,
+        DisambiguatedNameForm::LongInitialized => steps.saturating_sub(1),
+        DisambiguatedNameForm::ShortFull if most > 1 => steps,
+        DisambiguatedNameForm::ShortFull
+        | DisambiguatedNameForm::LongFull
+        | DisambiguatedNameForm::Count => 0,
+    }
+}
+
+/// The same from the form in which these forms show a name that was hidden.
+pub(crate) fn steps_in_forms(
+    forms: &NameDisambiguationProperties,
+    steps: usize,
+    most: usize,
+) -> usize
+    ensures { result ≡ spec.steps_from (name_properties forms.now).default_form steps most }
+{
+    steps_from(forms.default_name_form(), steps, most)
 }

@@ -7,6 +7,7 @@ ghost use Rattle.std.specs.List.Sorted.{IsPermutation};
 ghost use Rattle.csl_finish.specs.Keys.{ArePlaces};
 ghost use Rattle.csl_list.specs.Errors.{IsListingError};
 
+use crate::collation::Collation;
 use crate::error::ListError;
 use crate::identity::{Identity, number_at};
 use crate::list_style::KeyLayout;
@@ -29,8 +30,9 @@ fn direction_of(key: &KeyLayout) -> SortDirection {
 
 /// The texts of a work's keys, in no case. They are without a year suffix, which would turn the
 /// order of works that differ by it alone in a descending key.
-fn key_texts<T: EntryLike>(
+fn key_texts<T: EntryLike, C: Collation>(
     alloc: Global,
+    collation: &C,
     renderer: &mut Renderer<'_>,
     work: &T,
     number: CitationNumber,
@@ -44,8 +46,8 @@ fn key_texts<T: EntryLike>(
     for key in keys {
         let text = renderer.sort_key(alloc, work, &props, &key.layout, scope, key.sorting)?;
         let text = without_case_marks(alloc, text.as_str())?;
-        let direction = direction_of(key);
-        texts.push(KeyText::of_text(alloc, text, direction)?)?;
+        let sort_text = collation.sort_text(alloc, text.as_str())?;
+        texts.push(KeyText::new(sort_text, text, direction_of(key)))?;
     }
     Ok(texts)
 }
@@ -70,8 +72,9 @@ pub(crate) fn items_at(
 /// The works of a list in the order of their keys. Works that all keys are equal for stay as they
 /// are. They are numbered as they are.
 #[tactic(auto, using(crate::proofs::Orders::same_places))]
-pub(crate) fn by_keys<T: EntryLike>(
+pub(crate) fn by_keys<T: EntryLike, C: Collation>(
     alloc: Global,
+    collation: &C,
     renderer: &mut Renderer<'_>,
     keys: &[KeyLayout],
     works: &[T],
@@ -85,7 +88,7 @@ pub(crate) fn by_keys<T: EntryLike>(
     for (place, index) in cited.iter().enumerate() {
         let (number, scope) = (number_at(place)?, Scope::Bibliography);
         let work = &works[*index];
-        texts.push(key_texts(alloc, renderer, work, number, keys, scope)?)?;
+        texts.push(key_texts(alloc, collation, renderer, work, number, keys, scope)?)?;
     }
     let order = order_of(alloc, texts)?;
     Ok(items_at(alloc, cited, &order)?)
@@ -124,8 +127,9 @@ pub(crate) fn by_first_cites(
 /// The indices of the cites of a citation, in the order in which they are printed. Cites that all
 /// keys are equal for stay as the author wrote them.
 #[tactic(auto, using(crate::proofs::Orders::same_places))]
-pub(crate) fn printed_order<T: EntryLike>(
+pub(crate) fn printed_order<T: EntryLike, C: Collation>(
     alloc: Global,
+    collation: &C,
     renderer: &mut Renderer<'_>,
     keys: &[KeyLayout],
     works: &[T],
@@ -140,7 +144,15 @@ pub(crate) fn printed_order<T: EntryLike>(
     let mut texts = Vec::with_capacity(alloc, items.len())?;
     for item in items {
         let (work, number) = (&works[item.work], identities[item.work].number);
-        texts.push(key_texts(alloc, renderer, work, number, keys, Scope::Citation)?)?;
+        texts.push(key_texts(
+            alloc,
+            collation,
+            renderer,
+            work,
+            number,
+            keys,
+            Scope::Citation,
+        )?)?;
     }
     Ok(order_of(alloc, texts)?)
 }

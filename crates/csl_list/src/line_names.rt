@@ -10,23 +10,13 @@ ghost use Rattle.csl_list.specs.Bibliography as spec;
 use crate::cite::full_content;
 use crate::error::ListError;
 use crate::identity::Identity;
+use crate::more_names::count_shown;
 use crate::told_names::{AddedNames, added_names, put_names};
 use csl::{Rendered, Renderer};
 use csl_common::Memory;
 use csl_entry::{EntryLike, NameDisambiguationProperties};
 use csl_tree::ElemChildren;
 use std::alloc::Global;
-
-/// How many names of the first list are shown before the first that is not.
-fn count_shown(forms: &NameDisambiguationProperties) -> usize {
-    match forms.name_forms().first() {
-        Some(forms) => forms
-            .iter()
-            .position(|form| form.is_none())
-            .unwrap_or(forms.len()),
-        None => 0,
-    }
-}
 
 /// The forms with as many names as a cite shows, if they are of the same variable and show fewer.
 fn with_names_of(

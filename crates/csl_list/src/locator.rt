@@ -30,40 +30,51 @@ fn is_dash(letter: char) -> bool
     letter == '-' || letter == '–'
 }
 
-/// Whether a text has a digit, a dash and a digit in a row.
-fn has_range(text: &str) -> bool {
-    let (mut is_after_digit, mut is_after_dash) = (false, false);
-    for letter in text.chars() {
-        let is_digit = letter.is_ascii_digit();
-        if is_digit && is_after_dash {
-            return true;
-        }
-        is_after_dash = is_after_digit && is_dash(letter);
-        is_after_digit = is_digit;
+/// Whether what stands between two digits is a dash, alone or between spaces.
+fn is_range(between: &str) -> bool {
+    let mut letters = between.trim().chars();
+    match letters.next() {
+        Some(letter) => is_dash(letter) && letters.next().is_none(),
+        None => false,
     }
-    false
 }
 
-/// The text between marks, with a hyphen in the place of each dash after a digit.
-fn marked_range(alloc: Global, text: &str) -> Result<String, Memory> {
-    let mut marked = String::new(alloc);
-    let mut is_after_digit = false;
+/// Adds what stands between two digits: a hyphen, if it makes them a range. Returns whether it does.
+fn push_between(marked: &mut String, between: &str) -> Result<bool, Memory> {
+    let is_range = is_range(between);
+    marked.push_str(if is_range { "-" } else { between })?;
+    Ok(is_range)
+}
+
+/// The text between marks, with a hyphen in the place of what makes digits a range, if it has some.
+fn marked_range(alloc: Global, text: &str) -> Result<Option<String>, Memory> {
+    let (mut marked, mut between) = (String::new(alloc), String::new(alloc));
+    let (mut has_range, mut is_after_digit) = (false, false);
     marked.push(START)?;
     for letter in text.chars() {
-        let is_range = is_after_digit && is_dash(letter);
-        marked.push(if is_range { '-' } else { letter })?;
-        is_after_digit = letter.is_ascii_digit();
+        if letter.is_ascii_digit() {
+            has_range = push_between(&mut marked, between.as_str())? || has_range;
+            between.clear();
+            is_after_digit = true;
+            marked.push(letter)?;
+        } else if is_after_digit && (letter == ' ' || is_dash(letter)) {
+            between.push(letter)?;
+        } else {
+            marked.push_str(between.as_str())?;
+            between.clear();
+            is_after_digit = false;
+            marked.push(letter)?;
+        }
     }
+    marked.push_str(between.as_str())?;
     marked.push(END)?;
-    Ok(marked)
+    Ok(if has_range { Some(marked) } else { None })
 }
 
 /// The locator of a cite between marks, if it is a range.
 fn marked_locator(alloc: Global, item: &CitationItem<'_>) -> Result<Option<String>, Memory> {
     match item.locator {
-        Some(SpecificLocator(_, LocatorPayload::Str(text))) if has_range(text) => Ok(Some(
-            marked_range(alloc, text)?,
-        )),
+        Some(SpecificLocator(_, LocatorPayload::Str(text))) => marked_range(alloc, text),
         Some(_) | None => Ok(None),
     }
 }

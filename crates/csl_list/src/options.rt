@@ -51,7 +51,7 @@ pub enum Collapse {
 pub enum GivenNameRule {
     /// Each name that is that of several persons of the document.
     AllNames,
-    /// The same, by initials alone.
+    /// The same, by initials alone. Names that these do not tell apart stay as they are.
     AllNamesWithInitials,
     /// The first name of each cite, if it is that of several first persons.
     PrimaryName,
@@ -88,7 +88,8 @@ pub struct CitationOptions {
     /// Whether equal first cites show more of their names, if that tells some of them apart
     /// (disambiguate-add-names).
     pub adds_names: bool,
-    /// Whether names are told apart by given names (disambiguate-add-givenname).
+    /// Whether names are told apart by given names (disambiguate-add-givenname). With `adds_names`,
+    /// by cite, hidden names are added for their given names, too.
     pub adds_given_names: bool,
     /// Which names these are (givenname-disambiguation-rule).
     pub given_name_rule: GivenNameRule,

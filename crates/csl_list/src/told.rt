@@ -9,8 +9,9 @@ ghost use Rattle.csl_list.specs.Told as spec;
 use crate::cases::set_cases_of_work;
 use crate::equal::first_equals;
 use crate::error::ListError;
-use crate::given_names::{cited_names, steps_of_names};
+use crate::given_names::{cited_names, steps_in_forms, steps_of_names};
 use crate::identity::number_at;
+use crate::more_names::{More, count_of, expand_name, fuller_forms};
 use crate::options::{CitationOptions, GivenNameRule};
 use crate::substitute::whole_names;
 use crate::telling::TellingCite;
@@ -26,8 +27,6 @@ use std::alloc::Global;
 pub(crate) struct ToldCite {
     /// Which cite it is.
     pub telling: TellingCite,
-    /// Whether a first cite of the work is the same.
-    pub is_first_too: bool,
     /// The cite as a plain text.
     pub text: String,
     /// The names that it begins with, as a plain text. The text is empty if it has none.
@@ -38,6 +37,18 @@ pub(crate) struct ToldCite {
     pub is_named: bool,
     /// The names in these forms, if they are not the style's.
     pub added: Option<AddedNames>,
+    /// The steps by which the rule of given names expands each of its names wherever the document
+    /// has them.
+    pub needs: Vec<usize>,
+}
+
+/// The cites of the works of a list, told apart.
+#[derive(Drop)]
+pub(crate) struct ToldWorks {
+    /// The cites that tell the works apart.
+    pub telling: Vec<ToldCite>,
+    /// The first cites, if these are others.
+    pub firsts: Option<Vec<ToldCite>>,
 }
 
 /// The works of a list, and its order.
@@ -46,19 +57,10 @@ pub(crate) struct OrderedWorks<'w, T> {
     pub works: &'w [T],
     /// The indices of the works in the order of the list.
     pub order: &'w [usize],
-    /// Of each work the cite that tells it apart.
+    /// Of each work the cite that tells it apart: the first one, if there is none.
     pub telling: &'w [TellingCite],
     /// Whether works are English that do not say so themselves.
     pub is_english: bool,
-}
-
-/// More of the names of a cite.
-#[derive(Clone, Copy)]
-enum More {
-    /// So many of the names.
-    Names(usize),
-    /// A name, by so many steps: its initials, and the whole given name.
-    Given(usize, usize),
 }
 
 /// The cite of the work at a place, in this state.
@@ -82,12 +84,12 @@ fn cite_in_state<T: EntryLike>(
     set_cases_of_work(alloc, &mut content, work, list.is_english)?;
     Ok(ToldCite {
         telling,
-        is_first_too: true,
         text: content.to_text(alloc, BufWriteFormat::Plain)?,
         names: whole_names(alloc, &content)?,
         forms: state.first_names,
         is_named: false,
         added: added_names(alloc, &content, is_named)?,
+        needs: Vec::new(alloc),
     })
 }
 
@@ -98,12 +100,12 @@ fn named_cite<T: EntryLike>(
     list: &OrderedWorks<'_, T>,
     work: &T,
     place: usize,
-    own: (TellingCite, bool),
+    own: (TellingCite, Vec<usize>),
     forms: NameDisambiguationProperties,
 ) -> Result<ToldCite, ListError>
     ensures err { IfErr result IsListingError }
 {
-    let (telling, is_first_too) = own;
+    let (telling, needs) = own;
     let state = DisambiguateState::NameDisambiguation(forms.clone(alloc)?);
     let cite = cite_in_state(alloc, renderer, list, work, place, telling, state)?;
     let ToldCite {
@@ -114,41 +116,13 @@ fn named_cite<T: EntryLike>(
     } = cite;
     Ok(ToldCite {
         telling,
-        is_first_too,
         text,
         names,
         forms: Some(forms),
         is_named: true,
         added,
+        needs,
     })
-}
-
-/// The cite of the work at a place, as the style has it.
-fn plain_cite<T: EntryLike>(
-    alloc: Global,
-    renderer: &mut Renderer<'_>,
-    list: &OrderedWorks<'_, T>,
-    work: &T,
-    place: usize,
-    telling: TellingCite,
-) -> Result<ToldCite, ListError>
-    ensures err { IfErr result IsListingError }
-{
-    let mut cite = cite_in_state(
-        alloc,
-        renderer,
-        list,
-        work,
-        place,
-        telling,
-        DisambiguateState::None,
-    )?;
-    if let TellingCite::Later(_) = telling {
-        let (first, state) = (TellingCite::First, DisambiguateState::None);
-        let first = cite_in_state(alloc, renderer, list, work, place, first, state)?;
-        cite.is_first_too = first.text == cite.text;
-    }
-    Ok(cite)
 }
 
 /// The cites of the works of a list, in its order, as the style has them.
@@ -168,7 +142,8 @@ fn plain_cites<T: EntryLike>(
             .get(*index)
             .copied()
             .unwrap_or(TellingCite::First);
-        told.push(plain_cite(alloc, renderer, list, &list.works[*index], place, own)?)?;
+        let (work, state) = (&list.works[*index], DisambiguateState::None);
+        told.push(cite_in_state(alloc, renderer, list, work, place, own, state)?)?;
     }
     Ok(told)
 }
@@ -218,14 +193,6 @@ fn ambiguous(alloc: Global, told: &[ToldCite], places: &[usize]) -> Result<Vec<u
     Ok(ambiguous)
 }
 
-/// The number of names in the first list.
-fn count_of(forms: &NameDisambiguationProperties) -> usize {
-    match forms.name_forms().first() {
-        Some(forms) => forms.len(),
-        None => 0,
-    }
-}
-
 /// The most names that one of these cites has.
 fn most_names(told: &[ToldCite], places: &[usize]) -> usize {
     let mut most = 0;
@@ -237,59 +204,6 @@ fn most_names(told: &[ToldCite], places: &[usize]) -> usize {
         }
     }
     most
-}
-
-/// Whether a name of the first list is shown.
-fn is_shown(forms: &NameDisambiguationProperties, name: usize) -> bool {
-    match forms.name_forms().first() {
-        Some(forms) => match forms.get(name) {
-            Some(form) => form.is_some(),
-            None => false,
-        },
-        None => false,
-    }
-}
-
-/// Shows a name of the first list by so many steps more, if it is shown at all. Returns whether its
-/// form changed.
-fn expand_name(forms: &mut NameDisambiguationProperties, name: usize, steps: usize) -> bool {
-    let Some(variable) = forms.variables().first().copied() else {
-        return false;
-    };
-    let mut has_changed = false;
-    for _step in 0..steps {
-        if is_shown(forms, name) && forms.can_disambiguate(variable, &[name]) {
-            has_changed = forms.disambiguate_list(variable, &[name]) || has_changed;
-        }
-    }
-    has_changed
-}
-
-/// Whether forms may show more of the names.
-fn may_show(forms: &NameDisambiguationProperties, more: More) -> bool {
-    match more {
-        More::Names(count) => {
-            count <= count_of(forms) && !is_shown(forms, count.saturating_sub(1))
-        }
-        More::Given(name, _) => is_shown(forms, name),
-    }
-}
-
-/// The forms with more of the names, if there are more.
-fn fuller_forms(
-    alloc: Global,
-    forms: &NameDisambiguationProperties,
-    more: More,
-) -> Result<Option<NameDisambiguationProperties>, Memory> {
-    if !may_show(forms, more) {
-        return Ok(None);
-    }
-    let mut fuller = forms.clone(alloc)?;
-    let has_changed = match more {
-        More::Names(count) => fuller.add_name(count),
-        More::Given(name, steps) => expand_name(&mut fuller, name, steps),
-    };
-    Ok(if has_changed { Some(fuller) } else { None })
 }
 
 /// The cite at a place with more of its names, if there are more.
@@ -307,10 +221,10 @@ fn fuller_cite<T: EntryLike>(
     let Some(forms) = &told.forms else {
         return Ok(None);
     };
-    match fuller_forms(alloc, forms, more)? {
+    match fuller_forms(alloc, forms, more, &told.needs)? {
         None => Ok(None),
         Some(fuller) => {
-            let own = (told.telling, told.is_first_too);
+            let own = (told.telling, told.needs.as_slice().to_vec(alloc)?);
             Ok(Some(named_cite(alloc, renderer, list, work, place, own, fuller)?))
         }
     }
@@ -473,6 +387,28 @@ fn add_given_names<T: EntryLike>(
     Ok(())
 }
 
+/// Adds names that are hidden to equal cites, one by one, each expanded so far that it tells them
+/// apart.
+fn add_expanded_names<T: EntryLike>(
+    alloc: Global,
+    renderer: &mut Renderer<'_>,
+    list: &OrderedWorks<'_, T>,
+    told: &mut Vec<ToldCite>,
+) -> Result<(), ListError>
+    ensures err { IfErr result IsListingError }
+{
+    let all = all_places(alloc, told.len())?;
+    let mut places = ambiguous(alloc, told, &all)?;
+    for name in 1..most_names(told, &places) {
+        for steps in 1..3 {
+            let more = More::Hidden(name, steps);
+            show_more(alloc, renderer, list, told, &places, more)?;
+            places = ambiguous(alloc, told, &places)?;
+        }
+    }
+    Ok(())
+}
+
 /// Whether a rule expands the first name of each cite alone, and the steps that it expands one by.
 /// `None` by cite.
 fn expansion_of(rule: GivenNameRule) -> Option<(bool, usize)>
@@ -487,17 +423,25 @@ fn expansion_of(rule: GivenNameRule) -> Option<(bool, usize)>
     }
 }
 
-/// Expands a name of the cite at a place. Returns whether its form changed.
-fn expand_at(told: &mut [ToldCite], place: usize, name: usize, steps: usize) -> bool {
+/// Expands the next name of the cite at a place by these steps, of at most so many.
+fn expand_next(
+    told: &mut [ToldCite],
+    place: usize,
+    steps: usize,
+    most: usize,
+) -> Result<(), Memory> {
     let Some(cite) = told.get_mut(place) else {
-        return false;
+        return Ok(());
     };
+    let name = cite.needs.len();
     let Some(forms) = &mut cite.forms else {
-        return false;
+        return Ok(());
     };
+    let steps = steps_in_forms(forms, steps, most);
     let has_changed = expand_name(forms, name, steps);
     cite.is_named = cite.is_named || has_changed;
-    has_changed
+    cite.needs.push(steps)?;
+    Ok(())
 }
 
 /// Expands the names that are those of several persons of the document, by at most so many steps.
@@ -512,9 +456,9 @@ fn expand_names<T: EntryLike>(
     ensures err { IfErr result IsListingError }
 {
     let names = cited_names(alloc, list.works, list.order, told, is_primary)?;
-    let steps = steps_of_names(alloc, &names)?;
+    let steps = steps_of_names(alloc, &names, most)?;
     for (name, steps) in names.iter().zip(&steps) {
-        let _has_changed = expand_at(told, name.place, name.name, most.min(*steps));
+        expand_next(told, name.place, *steps, most)?;
     }
     Ok(())
 }
@@ -535,26 +479,26 @@ fn rendered_anew<T: EntryLike>(
     }
     let ToldCite {
         telling,
-        is_first_too,
         text,
         names,
         forms,
         is_named,
         added,
+        needs,
     } = cite;
     match forms {
         Some(forms) => {
-            let own = (telling, is_first_too);
+            let own = (telling, needs);
             named_cite(alloc, renderer, list, work, place, own, forms)
         }
         None => Ok(ToldCite {
             telling,
-            is_first_too,
             text,
             names,
             forms: None,
             is_named,
             added,
+            needs,
         }),
     }
 }
@@ -580,8 +524,8 @@ fn with_expanded<T: EntryLike>(
 }
 
 /// The cites of the works of a list, in its order, told apart by their names as the options have
-/// it: by names that the whole document needs, by more names, and by given names.
-pub(crate) fn told_cites<T: EntryLike>(
+/// it: by names that the whole document needs, by more names, by given names, and by both.
+fn told_cites<T: EntryLike>(
     alloc: Global,
     renderer: &mut Renderer<'_>,
     options: &CitationOptions,
@@ -601,8 +545,49 @@ pub(crate) fn told_cites<T: EntryLike>(
     }
     if options.adds_given_names && expansion.is_none() {
         add_given_names(alloc, renderer, list, &mut told)?;
+        if options.adds_names {
+            add_expanded_names(alloc, renderer, list, &mut told)?;
+        }
     }
     Ok(told)
+}
+
+/// Whether a work is told apart by a later cite.
+fn has_later(telling: &[TellingCite]) -> bool {
+    telling
+        .iter()
+        .any(|own| matches!(own, TellingCite::Later(_)))
+}
+
+/// The works of a list told apart by their cites, as the options have it. In notes later cites do
+/// so, and first ones are told apart by themselves.
+pub(crate) fn told_works<T: EntryLike>(
+    alloc: Global,
+    renderer: &mut Renderer<'_>,
+    options: &CitationOptions,
+    list: &OrderedWorks<'_, T>,
+) -> Result<ToldWorks, ListError>
+    requires order { All (λ work. work < length list.now.works.now) list.now.order.now }
+    ensures err { IfErr result IsListingError }
+{
+    let telling = told_cites(alloc, renderer, options, list)?;
+    if !has_later(list.telling) {
+        return Ok(ToldWorks {
+            telling,
+            firsts: None,
+        });
+    }
+    let of_firsts = OrderedWorks {
+        works: list.works,
+        order: list.order,
+        telling: &[],
+        is_english: list.is_english,
+    };
+    let firsts = told_cites(alloc, renderer, options, &of_firsts)?;
+    Ok(ToldWorks {
+        telling,
+        firsts: Some(firsts),
+    })
 }
 
 /// The cites at these places where branches that test `disambiguate` hold.
@@ -661,14 +646,14 @@ pub(crate) fn forms_at(told: &[ToldCite], place: usize) -> Option<&NameDisambigu
     }
 }
 
-/// The same for a cite of the work: they are not for a first cite that says more than later ones.
-pub(crate) fn forms_of_cite(
-    told: &[ToldCite],
-    place: usize,
-    is_first: bool,
-) -> Option<&NameDisambiguationProperties> {
-    match told.get(place) {
-        Some(cite) if is_first && !cite.is_first_too => None,
-        Some(_) | None => forms_at(told, place),
+impl ToldWorks {
+    /// The cites of the works that are first ones, or later ones.
+    pub fn cites(&self, are_first: bool) -> &[ToldCite]
+        ensures { result.now ≡ spec.cites_of self.now are_first }
+    {
+        match &self.firsts {
+            Some(firsts) if are_first => firsts,
+            Some(_) | None => &self.telling,
+        }
     }
 }

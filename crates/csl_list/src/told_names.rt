@@ -1,8 +1,8 @@
 //! Names that tell a work apart beside its year suffix. Rendering tells a cite apart by a suffix or
 //! by the forms of its names, so a cite with a suffix gets its names from one without it.
 
-use crate::identity::Identity;
-use crate::told::ToldCite;
+use crate::citation::PositionedCite;
+use crate::told::ToldWorks;
 use csl_common::Memory;
 use csl_elements::NameVariable;
 use csl_tree::{Elem, ElemChild, ElemChildren, ElemMeta};
@@ -44,22 +44,17 @@ pub(crate) fn added_names(
     }
 }
 
-/// The names of a work that stand beside its suffix. There are none if its first cite says more
-/// than later ones.
-fn names_beside<'t>(
-    told: &'t [ToldCite],
-    identities: &[Identity],
-    work: usize,
+/// The names of a cite that stand beside its suffix, if it has one.
+fn names_beside<'t, T>(
+    told: &'t ToldWorks,
+    cite: &PositionedCite<'_, '_, T>,
 ) -> Option<&'t AddedNames> {
-    let identity = identities.get(work)?;
-    if !identity.is_marked() {
+    if !cite.identity.is_marked() {
         return None;
     }
-    let cite = told.get(identity.number.get() as usize)?;
-    if !cite.is_first_too {
-        return None;
-    }
-    cite.added.as_ref()
+    let place = cite.identity.number.get() as usize;
+    let own = told.cites(cite.position.is_first).get(place)?;
+    own.added.as_ref()
 }
 
 /// Puts names in the place of those that a cite begins with, if both are of one variable: if the
@@ -78,17 +73,20 @@ pub(crate) fn put_names(
     Ok(())
 }
 
-/// Puts the names that tell works apart beside their suffixes into the cites of a citation.
-pub(crate) fn put_added_names(
+/// Puts the names that tell works apart beside their suffixes into the cites of a citation. `cites`
+/// are these cites, and those that print nothing.
+pub(crate) fn put_added_names<T>(
     alloc: Global,
     content: &mut ElemChildren,
-    identities: &[Identity],
-    told: &[ToldCite],
+    cites: &[PositionedCite<'_, '_, T>],
+    told: &ToldWorks,
 ) -> Result<(), Memory> {
+    let mut next = cites.iter();
     for child in content.0.iter_mut() {
         if let ElemChild::Elem(elem) = child {
             if let Some(ElemMeta::Entry(work)) = elem.meta {
-                if let Some(names) = names_beside(told, identities, work) {
+                let own = next.find(|cite| cite.item.work == work);
+                if let Some(names) = own.and_then(|cite| names_beside(told, cite)) {
                     put_names(alloc, &mut elem.children, names)?;
                 }
             }
