@@ -25,18 +25,20 @@ use Rattle.csl_entry.specs.Answers.{Answers}
 use Rattle.csl_names.specs.NamesForms.{writes_no_name}
 use Rattle.csl_names.specs.NamesLists.{PersonLists, all_empty, peeked_lists}
 use Rattle.csl_nodes.specs.Condition.{branch_matches, chosen_nodes, chosen_children}
-use Rattle.csl_nodes.specs.Usage.{Info, group_info, no_info}
+use Rattle.csl_nodes.specs.Usage.{Info, group_info, no_info, info_union, as_child_info, without_group_flag}
 use Rattle.csl_render.specs.declared.plan.OwnedPlan.{OwnedPlan}
 use Rattle.csl_render.specs.declared.plan.NodeInfo.{NodeInfo}
 use Rattle.csl_render.specs.declared.plan.PlanItem.{PlanItem}
-use Rattle.csl_render.specs.DryRun.{Adds, Run}
+use Rattle.csl_render.specs.DryRun.{Adds, Run, dry_of}
 use Rattle.csl_render.specs.Flags.{info_of_flags}
 use Rattle.csl_render.specs.Names.{author, has_variable, is_refused, names_show, names_or_substitute_info, expanded_substitutes_of}
 use Rattle.csl_elements.specs.declared.variable_set.VariableSet.{VariableSet}
-use Rattle.csl_render.specs.Plan.{DryView, asks_for_author, state_for_dry_run, dry_now, dry_view, AreSuppressedAlike, AreAlikeOn, HasTested, HasAllTested, TellsAuthor, answer_of, AreItemsInside, AreItems, AreItemsOfBranches, AreItemsIfTaken, AreItemsOfSubstitutes, TakesBranch, nodes_of_branch, IsInfo, IsInfoOfNodes, IsInfoOfSubstitutes, IsDryRun}
-use Rattle.csl_render.specs.Tree.{info, nodes_info, substitute_info, choice_info, shows, any_shows, substitute_shows, choice_shows}
+use Rattle.csl_render.specs.Plan.{DryView, asks_for_author, state_for_dry_run, dry_now, dry_view, AreSuppressedAlike, AreAlikeOn, HasTested, HasAllTested, TellsAuthor, counted, CountsAs, answer_of, AreItemsInside, AreItems, AreItemsOfBranches, AreItemsIfTaken, AreItemsOfSubstitutes, TakesBranch, nodes_of_branch, IsInfo, IsInfoOfNodes, IsInfoOfSubstitutes, IsDryRun}
+use Rattle.csl_render.specs.Tree.{info, nodes_info, substitute_info, choice_info, shows, any_shows, substitute_shows, choice_shows, is_group}
 use Rattle.csl_elements.specs.VariableSet.{Has, IsWithin}
 use Rattle.csl_render.proofs.Chosen.{IsChoice, is_choice, choice_out, info_of_choice, shows_of_choice, takes_branch}
+use Rattle.csl_render.proofs.Counted.{group_counts, no_group_counts, child_counts, settled}
+use Rattle.csl_render.proofs.Eithers.{or_assoc, or_false, either_assoc, either_nothing}
 use Rattle.csl_render.proofs.GroupView.{group_out}
 use Rattle.csl_elements.proofs.Rolled.{names_view}
 use Rattle.csl_render.proofs.Reading.{matches_same, lists_same, alike_within, alike_to_itself}
@@ -91,37 +93,41 @@ AreClosed i P is = (inside : List PlanItem) × (is ≡ record { info = i; inside
 
 module _ {T : Type 0} where
   pub adds_none : (P : List PlanItem → Type 0) (run : Run T) → P [] → Adds P run run
-  adds_none P run h = record { more = []; added = ap (λ is. record { now = run.now; items = is }) (sym (append-nil run.items)); hold = h }
+  adds_none P run h = record { more = []; added = ap (λ is. record { now = run.now; whole = run.whole; items = is }) (sym (append-nil run.items)); hold = h }
 
   pub adds_as : (P Q : List PlanItem → Type 0) (old new : Run T) → ((is : List PlanItem) → P is → Q is) → Adds P old new → Adds Q old new
   adds_as P Q old new to h = record { more = h.more; added = h.added; hold = to h.more h.hold }
 
   -- room for a node, the nodes inside it, and then its result
   pub closed : (P : List PlanItem → Type 0) (i : NodeInfo) (place : ℕ) (start opened end next : Run T) → place ≡ length start.items → Adds (λ is. length is ≡ 1) start opened → Adds P opened end
-      → next ≡ record { now = end.now; items = set end.items place (record { info = i; inside = length end.items - place - 1 }) }
+      → next ≡ record { now = end.now; whole = end.whole; items = set end.items place (record { info = i; inside = length end.items - place - 1 }) }
       → Adds (AreClosed i P) start next
   closed P i place start opened end next at room inside e =
       let (j, one) = only_one room.more room.hold in
       let with_room : opened.items ≡ start.items ++ (j ∷ []) = ap (λ r. r.items) room.added ∙ ap (λ is. start.items ++ is) one in
       let ended : end.items ≡ start.items ++ (j ∷ inside.more) = ap (λ r. r.items) inside.added ∙ ap (λ is. is ++ inside.more) with_room ∙ append_assoc start.items (j ∷ []) inside.more in
       let now : end.now ≡ start.now = ap (λ r. r.now) inside.added ∙ ap (λ r. r.now) room.added in
+      let whole : end.whole ≡ start.whole = ap (λ r. r.whole) inside.added ∙ ap (λ r. r.whole) room.added in
       let long : length end.items ≡ length start.items + suc (length inside.more) = ap length ended ∙ length-append start.items (j ∷ inside.more) in
       let count : length end.items - place - 1 ≡ length inside.more = omega (arith, long, at) in
       record {
         more = record { info = i; inside = length inside.more } ∷ inside.more;
         added =
             e
-            ∙ ap (λ n. record { now = n; items = set end.items place (record { info = i; inside = length end.items - place - 1 }) }) now
-            ∙ ap (λ k. record { now = start.now; items = set end.items place (record { info = i; inside = k }) }) count
-            ∙ ap (λ is. record { now = start.now; items = set is place (record { info = i; inside = length inside.more }) }) ended
-            ∙ ap (λ is. record { now = start.now; items = is }) (set_at start.items j inside.more (record { info = i; inside = length inside.more }) place (sym at));
+            ∙ ap (λ n. record { now = n; whole = end.whole; items = set end.items place (record { info = i; inside = length end.items - place - 1 }) }) now
+            ∙ ap (λ b. record { now = start.now; whole = b; items = set end.items place (record { info = i; inside = length end.items - place - 1 }) }) whole
+            ∙ ap (λ k. record { now = start.now; whole = start.whole; items = set end.items place (record { info = i; inside = k }) }) count
+            ∙ ap (λ is. record { now = start.now; whole = start.whole; items = set is place (record { info = i; inside = length inside.more }) }) ended
+            ∙ ap (λ is. record { now = start.now; whole = start.whole; items = is }) (set_at start.items j inside.more (record { info = i; inside = length inside.more }) place (sym at));
         hold = (inside.more, refl, inside.hold);
       }
 
   -- a node without nodes inside does not show the author
   pub leaf : (answers : T → Answers) (run : Run T) (f : ExpandedNode) (i : NodeInfo) → i.shows_author ≡ false → ((s : State) → TellsAuthor (render_input answers run.now) false (shows (render_input answers run.now) s author f))
-      → ((s : State) → AreAlikeOn (render_input answers run.now) i.read (dry_now run.now) s → answer_of i ≡ info (render_input answers run.now) s f) → ((s : State) → TakesBranch (render_input answers run.now) s f i.branch) → Adds (IsInfo (render_input answers run.now) (dry_now run.now) f i) run run
-  leaf answers run f i told silent h takes = adds_none (IsInfo (render_input answers run.now) (dry_now run.now) f i) run (λ s alike. (h s alike, λ asks. told ∙ silent s asks, none_inside (render_input answers run.now) (dry_now run.now) s f, takes s))
+      → ((s : State) → AreAlikeOn (render_input answers run.now) i.read (dry_of run) s → answer_of i ≡ info (render_input answers run.now) s f) → ((s : State) → TakesBranch (render_input answers run.now) s f i.branch) → Adds (IsInfo (render_input answers run.now) (dry_of run) f i) run run
+  leaf answers run f i told silent h takes =
+      adds_none (IsInfo (render_input answers run.now) (dry_of run) f i) run
+      (λ s alike. (ap (counted run.whole) (h s alike), λ asks. told ∙ silent s asks, none_inside (render_input answers run.now) (dry_of run) s f, takes s))
 
 -- ---- node by node
 
@@ -133,7 +139,7 @@ nodes_from env ns i x within is = at_drop_more (λ l. expand_nodes env (view_nod
 pub first_planned : (w : RenderInput) (d : DryView) (f : ExpandedNode) (fs : ExpandedNodes) (i : NodeInfo) (inside others : List PlanItem) → IsInfo w d f i inside → AreItems w d fs others → AreItems w d (expanded_node f fs) (record { info = i; inside = length inside } ∷ (inside ++ others))
 first_planned w d f fs i inside others one rest = (
   (let long = length-append inside others in omega (arith, long)),
-  (λ s alike. subst (λ is. (answer_of i ≡ info w s f) × TellsAuthor w i.shows_author (shows w s author f) × AreItemsInside w d s f is × TakesBranch w s f i.branch) (sym (take_at inside others (length inside) refl)) (one s alike)),
+  (λ s alike. subst (λ is. CountsAs d.whole (answer_of i) (info w s f) × TellsAuthor w i.shows_author (shows w s author f) × AreItemsInside w d s f is × TakesBranch w s f i.branch) (sym (take_at inside others (length inside) refl)) (one s alike)),
   subst (λ is. AreItems w d fs is) (sym (drop_at inside others (length inside) refl)) rest,
 )
 
@@ -146,11 +152,56 @@ one_more w d f fs rest all i start now next from before more =
     let (inside, is, one) = more.hold in
     record {
       more = before.more ++ more.more;
-      added = more.added ∙ ap (λ r. record { now = r.now; items = r.items ++ more.more }) before.added ∙ ap (λ is. record { now = start.now; items = is }) (append_assoc start.items before.more more.more);
+      added = more.added
+          ∙ ap (λ r. record { now = r.now; whole = r.whole; items = r.items ++ more.more }) before.added
+          ∙ ap (λ is. record { now = start.now; whole = start.whole; items = is }) (append_assoc start.items before.more more.more);
       hold = λ others h.
           let first = subst (λ is. AreItems w d (expanded_node f fs) (is ++ others)) (sym is) (first_planned w d f fs i inside others one h) in
           subst (λ is. AreItems w d all is) (sym (append_assoc before.more more.more others)) (before.hold (more.more ++ others) (subst (λ ns. AreItems w d ns (more.more ++ others)) (sym from) first));
     }
+
+-- the results so far, with those for the remaining nodes, count as those of all nodes
+abbrev pub CountsSoFar : RenderInput → DryView → ExpandedNodes → ExpandedNodes → NodeInfo → Type 0
+CountsSoFar w d rest all i = (s : State) → AreAlikeOn w i.read d s → CountsAs d.whole (info_union (answer_of i) (nodes_info w s rest)) (nodes_info w s all) × TellsAuthor w (i.shows_author || any_shows w s author rest) (any_shows w s author all)
+
+-- and so do they with that for one more node
+pub counts_one_more : (w : RenderInput) (d : DryView) (f : ExpandedNode) (fs rest all : ExpandedNodes) (grouped : Bool) (before one more : NodeInfo) (items : List PlanItem) → rest ≡ expanded_node f fs → grouped ≡ is_group f
+    → IsWithin before.read more.read → IsWithin one.read more.read → answer_of more ≡ info_union (answer_of before) (as_child_info grouped (answer_of one)) → more.shows_author ≡ (before.shows_author || one.shows_author)
+    → CountsSoFar w d rest all before → IsInfo w d f one items → CountsSoFar w d fs all more
+counts_one_more w d f fs rest all grouped before one more items from same_group before_within one_within answer author_told so_far found s alike =
+    let told = so_far s (alike_within w before.read more.read d s before_within alike) in
+    let new = found s (alike_within w one.read more.read d s one_within alike) in (
+      ap (λ a. counted d.whole (info_union a (nodes_info w s fs))) (answer ∙ ap (λ b. info_union (answer_of before) (as_child_info b (answer_of one))) same_group)
+          ∙ child_counts (answer_of before) (nodes_info w s fs) (is_group f) d.whole (answer_of one) (info w s f) new.0
+          ∙ ap (counted d.whole) (either_assoc (answer_of before) (as_child_info (is_group f) (info w s f)) (nodes_info w s fs))
+          ∙ ap (λ ns. counted d.whole (info_union (answer_of before) (nodes_info w s ns))) (sym from)
+          ∙ told.0,
+      λ asks. ap (λ b. b || any_shows w s author fs) (author_told ∙ ap (λ b. before.shows_author || b) (new.1 asks))
+          ∙ or_assoc before.shows_author (shows w s author f) (any_shows w s author fs)
+          ∙ ap (λ ns. before.shows_author || any_shows w s author ns) (sym from)
+          ∙ told.1 asks,
+    )
+
+-- no nodes are left
+pub counts_all : (w : RenderInput) (d : DryView) (rest all : ExpandedNodes) (i : NodeInfo) → rest ≡ no_expanded_nodes → CountsSoFar w d rest all i → (s : State) → AreAlikeOn w i.read d s
+    → CountsAs d.whole (answer_of i) (nodes_info w s all) × TellsAuthor w i.shows_author (any_shows w s author all)
+counts_all w d rest all i none so_far s alike =
+    let told = so_far s alike in (
+      ap (counted d.whole) (sym (either_nothing (answer_of i)) ∙ ap (λ ns. info_union (answer_of i) (nodes_info w s ns)) (sym none)) ∙ told.0,
+      λ asks. sym (or_false i.shows_author) ∙ ap (λ ns. i.shows_author || any_shows w s author ns) (sym none) ∙ told.1 asks,
+    )
+
+-- the nodes that are left change nothing that groups count, and no special form asks for them
+pub counts_enough : (w : RenderInput) (d : DryView) (rest all : ExpandedNodes) (i : NodeInfo) → d.whole ≡ false → w.instance.special ≡ None → (answer_of i).prints ≡ true → (answer_of i).flags.has_vars ≡ true → (answer_of i).flags.has_non_empty_vars ≡ true → CountsSoFar w d rest all i
+    → (s : State) → AreAlikeOn w i.read d s → CountsAs d.whole (without_group_flag (answer_of i)) (without_group_flag (nodes_info w s all)) × TellsAuthor w i.shows_author (any_shows w s author all)
+counts_enough w d rest all i plan plain prints vars full so_far s alike = (
+  settled d.whole (answer_of i) (nodes_info w s rest) plan prints vars full ∙ no_group_counts d.whole (info_union (answer_of i) (nodes_info w s rest)) (nodes_info w s all) (so_far s alike).0,
+  λ asks. absurd (false≢true (ap asks_for_author (sym plain) ∙ asks)),
+)
+
+-- the context of a run and what it is for
+pub in_run : {T : Type 0} (P : ContextView T → Bool → Type 0) (a b : Run T) → a.now ≡ b.now → a.whole ≡ b.whole → P a.now a.whole → P b.now b.whole
+in_run P a b now whole h = subst (λ m. P b.now m) whole (subst (λ n. P n a.whole) now h)
 
 -- ---- a plan of a node
 
@@ -162,12 +213,12 @@ pub names_asked : (w : RenderInput) (d : DryView) (s : State) (env : List ℕ �
 names_asked w d s env x is h = subst (λ n. AreItemsInside w d s (expand env n) is) (sym (names_view x)) h
 
 -- what a dry run from an empty plan gives
-pub asked : {T : Type 0} (answers : T → Answers) (now : ContextView T) (f : ExpandedNode) (i : NodeInfo) (end : Run T) (r : OwnedPlan) → Adds (IsInfo (render_input answers now) (dry_now now) f i) (record { now = now; items = [] }) end
+pub asked : {T : Type 0} (answers : T → Answers) (now : ContextView T) (f : ExpandedNode) (i : NodeInfo) (end : Run T) (r : OwnedPlan) → Adds (IsInfo (render_input answers now) (dry_now now) f i) (record { now = now; whole = false; items = [] }) end
     → dry_view r.at ≡ dry_now now → r.flags ≡ i.flags → r.shows_author ≡ i.shows_author → r.branch ≡ i.branch → r.inside.items ≡ end.items → IsDryRun answers now f r
 asked answers now f i end r h at answer told taken inside =
     let w = render_input answers now in
-    let holds = h.hold now.state (alike_to_itself w i.read now.state) in (
-      ap info_of_flags answer ∙ holds.0,
+    let holds = h.hold now.state (alike_to_itself false w i.read now.state) in (
+      ap (λ flags. counted false (info_of_flags flags)) answer ∙ holds.0,
       λ asks. told ∙ holds.1 asks,
       subst (λ d. AreItemsInside w d now.state f r.inside.items) (sym at) (subst (AreItemsInside w (dry_now now) now.state f) (sym (inside ∙ ap (λ r. r.items) h.added)) holds.2),
       subst (TakesBranch w now.state f) (sym taken) holds.3,
@@ -228,36 +279,36 @@ module _ (w : RenderInput) (s t : State) (read : VariableSet) (alike : AreSuppre
 -- ---- a node around nodes, by the dry run of these nodes
 
 module _ (w : RenderInput) (d : DryView) (i r : NodeInfo) (read : r.read ≡ i.read) (told : r.shows_author ≡ i.shows_author) where
-  pub around : (fs : ExpandedNodes) (f : Info → Info) (is : List PlanItem) → IsInfoOfNodes w d fs i is → answer_of r ≡ f (answer_of i)
-      → (s : State) → AreAlikeOn w r.read d s → (answer_of r ≡ f (nodes_info w s fs)) × TellsAuthor w r.shows_author (any_shows w s author fs) × AreItems w d fs is × ⊤
-  around fs f is h e s alike =
+  pub around : (fs : ExpandedNodes) (f : Info → Info) (is : List PlanItem) → ((whole : Bool) (a b : Info) → CountsAs whole a b → CountsAs whole (f a) (f b)) → IsInfoOfNodes w d fs i is → answer_of r ≡ f (answer_of i)
+      → (s : State) → AreAlikeOn w r.read d s → CountsAs d.whole (answer_of r) (f (nodes_info w s fs)) × TellsAuthor w r.shows_author (any_shows w s author fs) × AreItems w d fs is × ⊤
+  around fs f is counts h e s alike =
       let holds = h.0 s (subst (λ x. AreAlikeOn w x d s) read alike) in
-      (e ∙ ap f holds.0, λ asks. told ∙ holds.1 asks, h.1, tt)
+      (ap (counted d.whole) e ∙ counts d.whole (answer_of i) (nodes_info w s fs) holds.0, λ asks. told ∙ holds.1 asks, h.1, tt)
 
   pub around_group : (env : List ℕ → Option ExpandedNodes) (g : Group) (is : List PlanItem) → IsInfoOfNodes w d (expand_nodes env (view_nodes g.children.items)) i is → answer_of r ≡ group_info (answer_of i) → IsInfo w d (expand env (view_group g)) r is
-  around_group env g is h e = subst (λ n. IsInfo w d (expand env n) r is) (sym (group_out g)) (around _ group_info is h e)
+  around_group env g is h e = subst (λ n. IsInfo w d (expand env n) r is) (sym (group_out g)) (around _ group_info is group_counts h e)
 
 -- the result for a choice, by that for the nodes that it takes in the state of the dry run
-pub around_taken : (w : RenderInput) (s : State) (env : List ℕ → Option ExpandedNodes) (c : Choose) (taken : Option Nodes) (tested : VariableSet) (r : NodeInfo) (is : List PlanItem) → HasAllTested tested c → IsWithin tested r.read → taken ≡ chosen_children w s (view_choose c)
-    → ((u : State) → AreAlikeOn w r.read (state_for_dry_run w.instance.special s) u → (answer_of r ≡ choice_info w u (option_map (expand_nodes env) taken)) × TellsAuthor w r.shows_author (choice_shows w u author (option_map (expand_nodes env) taken)))
-    → AreItemsIfTaken w (state_for_dry_run w.instance.special s) (option_map (expand_nodes env) taken) is → nodes_of_branch (view_choose c) r.branch ≡ taken → IsInfo w (state_for_dry_run w.instance.special s) (expand env (view_choose c)) r is
-around_taken w s env c taken tested r is has within here tells inside place u alike =
+pub around_taken : (whole : Bool) (w : RenderInput) (s : State) (env : List ℕ → Option ExpandedNodes) (c : Choose) (taken : Option Nodes) (tested : VariableSet) (r : NodeInfo) (is : List PlanItem) → HasAllTested tested c → IsWithin tested r.read → taken ≡ chosen_children w s (view_choose c)
+    → ((u : State) → AreAlikeOn w r.read (state_for_dry_run whole w.instance.special s) u → CountsAs whole (answer_of r) (choice_info w u (option_map (expand_nodes env) taken)) × TellsAuthor w r.shows_author (choice_shows w u author (option_map (expand_nodes env) taken)))
+    → AreItemsIfTaken w (state_for_dry_run whole w.instance.special s) (option_map (expand_nodes env) taken) is → nodes_of_branch (view_choose c) r.branch ≡ taken → IsInfo w (state_for_dry_run whole w.instance.special s) (expand env (view_choose c)) r is
+around_taken whole w s env c taken tested r is has within here tells inside place u alike =
     let there = here ∙ same_chosen w s u tested (λ v h. alike.1 v (within v h)) c has in
     let told = tells u alike in (
-      told.0 ∙ ap (λ o. choice_info w u (option_map (expand_nodes env) o)) there ∙ sym (info_of_choice w u env c),
+      told.0 ∙ ap (λ o. counted whole (choice_info w u (option_map (expand_nodes env) o))) there ∙ ap (counted whole) (sym (info_of_choice w u env c)),
       λ asks. told.1 asks ∙ ap (λ o. choice_shows w u author (option_map (expand_nodes env) o)) there ∙ sym (shows_of_choice w u env author c),
-      asked_nodes w env (state_for_dry_run w.instance.special s) u is c (subst (λ o. AreItemsIfTaken w (state_for_dry_run w.instance.special s) (option_map (expand_nodes env) o) is) there inside),
+      asked_nodes w env (state_for_dry_run whole w.instance.special s) u is c (subst (λ o. AreItemsIfTaken w (state_for_dry_run whole w.instance.special s) (option_map (expand_nodes env) o) is) there inside),
       takes_branch w u env c r.branch (place ∙ there),
     )
 
 -- the result for substitutes, by that for the nodes that they take
 around_first : (w : RenderInput) (d : DryView) (ss : ExpandedSubstitutes) (taken : Option ExpandedNodes) (r : NodeInfo) (is : List PlanItem) → ((u : State) → substitute_info w u ss ≡ choice_info w u taken) → ((u : State) → substitute_shows w u author ss ≡ choice_shows w u author taken) → (AreItemsIfTaken w d taken is → AreItemsOfSubstitutes w d ss is)
-    → ((u : State) → AreAlikeOn w r.read d u → (answer_of r ≡ choice_info w u taken) × TellsAuthor w r.shows_author (choice_shows w u author taken)) → AreItemsIfTaken w d taken is → IsInfoOfSubstitutes w d ss r is
-around_first w d ss taken r is same shown from tells inside = (λ u alike. ((tells u alike).0 ∙ sym (same u), λ asks. (tells u alike).1 asks ∙ sym (shown u)), from inside)
+    → ((u : State) → AreAlikeOn w r.read d u → CountsAs d.whole (answer_of r) (choice_info w u taken) × TellsAuthor w r.shows_author (choice_shows w u author taken)) → AreItemsIfTaken w d taken is → IsInfoOfSubstitutes w d ss r is
+around_first w d ss taken r is same shown from tells inside = (λ u alike. ((tells u alike).0 ∙ ap (counted d.whole) (sym (same u)), λ asks. (tells u alike).1 asks ∙ sym (shown u)), from inside)
 
 -- the result for the substitutes of a names node, by that for the children of the first
 pub around_substitute : (w : RenderInput) (d : DryView) (env : List ℕ → Option ExpandedNodes) (x : Names) (taken : Option Nodes) (r : NodeInfo) (is : List PlanItem) → taken ≡ first_substitute (names_substitutes x)
-    → ((u : State) → AreAlikeOn w r.read d u → (answer_of r ≡ choice_info w u (option_map (expand_nodes env) taken)) × TellsAuthor w r.shows_author (choice_shows w u author (option_map (expand_nodes env) taken)))
+    → ((u : State) → AreAlikeOn w r.read d u → CountsAs d.whole (answer_of r) (choice_info w u (option_map (expand_nodes env) taken)) × TellsAuthor w r.shows_author (choice_shows w u author (option_map (expand_nodes env) taken)))
     → AreItemsIfTaken w d (option_map (expand_nodes env) taken) is → IsInfoOfSubstitutes w d (expanded_substitutes_of env x) r is
 around_substitute w d env x taken r is here tells inside =
     around_first w d (expanded_substitutes_of env x) (option_map (expand_nodes env) taken) r is
@@ -291,27 +342,27 @@ module _ (n : NamesNode) (ss : ExpandedSubstitutes) where
     abbrev pub told_by : Bool → Bool → State → Info
     told_by empty void u = if is_refused w.instance.special n empty ss (shown_by empty u) then no_info else names_or_substitute_info void (substitute_info w u ss)
 
-    names_told : (s : State) (own : VariableSet) (empty void : Bool) (r : NodeInfo) (is : List PlanItem) → Each (λ v. Has own (variable.Name v)) n.variables → IsWithin own r.read
+    names_told : (whole : Bool) (s : State) (own : VariableSet) (empty void : Bool) (r : NodeInfo) (is : List PlanItem) → Each (λ v. Has own (variable.Name v)) n.variables → IsWithin own r.read
         → empty ≡ all_empty (peeked_lists w s n.variables) → void ≡ writes_no_name n (peeked_lists w s n.variables)
-        → ((u : State) → AreAlikeOn w r.read (state_for_dry_run w.instance.special s) u → (answer_of r ≡ told_by empty void u) × TellsAuthor w r.shows_author (shown_by empty u))
-        → AreItemsOfSubstitutes w (state_for_dry_run w.instance.special s) ss is → IsInfo w (state_for_dry_run w.instance.special s) (expanded_names n ss) r is
-    names_told s own empty void r is has within empties voids tells inside u alike =
+        → ((u : State) → AreAlikeOn w r.read (state_for_dry_run whole w.instance.special s) u → CountsAs whole (answer_of r) (told_by empty void u) × TellsAuthor w r.shows_author (shown_by empty u))
+        → AreItemsOfSubstitutes w (state_for_dry_run whole w.instance.special s) ss is → IsInfo w (state_for_dry_run whole w.instance.special s) (expanded_names n ss) r is
+    names_told whole s own empty void r is has within empties voids tells inside u alike =
         let told = tells u alike in
-        let lists = lists_same w s u own (alike_within w own r.read (state_for_dry_run w.instance.special s) u within alike).1 n.variables has in (
+        let lists = lists_same w s u own (alike_within w own r.read (state_for_dry_run whole w.instance.special s) u within alike).1 n.variables has in (
           told.0
-              ∙ ap (λ b. told_by empty b u) voids
-              ∙ ap (λ b. told_by b (writes_no_name n (peeked_lists w s n.variables)) u) empties
-              ∙ ap (λ (ls : PersonLists). told_by (all_empty ls) (writes_no_name n ls) u) lists,
+              ∙ ap (λ b. counted whole (told_by empty b u)) voids
+              ∙ ap (λ b. counted whole (told_by b (writes_no_name n (peeked_lists w s n.variables)) u)) empties
+              ∙ ap (λ (ls : PersonLists). counted whole (told_by (all_empty ls) (writes_no_name n ls) u)) lists,
           λ asks. told.1 asks ∙ ap (λ b. shown_by b u) empties ∙ ap (λ (ls : PersonLists). shown_by (all_empty ls) u) lists,
           inside,
           tt,
         )
 
 -- the result for names, by what the dry run finds of their lists, and the result for their substitutes
-pub around_names : (w : RenderInput) (s : State) (env : List ℕ → Option ExpandedNodes) (x : Names) (own : VariableSet) (empty void : Bool) (r : NodeInfo) (is : List PlanItem) → Each (λ v. Has own (variable.Name v)) (names_node x).variables → IsWithin own r.read
+pub around_names : (whole : Bool) (w : RenderInput) (s : State) (env : List ℕ → Option ExpandedNodes) (x : Names) (own : VariableSet) (empty void : Bool) (r : NodeInfo) (is : List PlanItem) → Each (λ v. Has own (variable.Name v)) (names_node x).variables → IsWithin own r.read
     → empty ≡ all_empty (peeked_lists w s (names_node x).variables) → void ≡ writes_no_name (names_node x) (peeked_lists w s (names_node x).variables)
-    → ((u : State) → AreAlikeOn w r.read (state_for_dry_run w.instance.special s) u
-    → (answer_of r ≡ told_by (names_node x) (expanded_substitutes_of env x) w empty void u) × TellsAuthor w r.shows_author (shown_by (names_node x) (expanded_substitutes_of env x) w empty u))
-    → AreItemsOfSubstitutes w (state_for_dry_run w.instance.special s) (expanded_substitutes_of env x) is → IsInfo w (state_for_dry_run w.instance.special s) (expand env (view_names x)) r is
-around_names w s env x own empty void r is has within empties voids tells inside =
-    subst (λ m. IsInfo w (state_for_dry_run w.instance.special s) (expand env m) r is) (sym (names_view x)) (names_told (names_node x) (expanded_substitutes_of env x) w s own empty void r is has within empties voids tells inside)
+    → ((u : State) → AreAlikeOn w r.read (state_for_dry_run whole w.instance.special s) u
+    → CountsAs whole (answer_of r) (told_by (names_node x) (expanded_substitutes_of env x) w empty void u) × TellsAuthor w r.shows_author (shown_by (names_node x) (expanded_substitutes_of env x) w empty u))
+    → AreItemsOfSubstitutes w (state_for_dry_run whole w.instance.special s) (expanded_substitutes_of env x) is → IsInfo w (state_for_dry_run whole w.instance.special s) (expand env (view_names x)) r is
+around_names whole w s env x own empty void r is has within empties voids tells inside =
+    subst (λ m. IsInfo w (state_for_dry_run whole w.instance.special s) (expand env m) r is) (sym (names_view x)) (names_told (names_node x) (expanded_substitutes_of env x) w whole s own empty void r is has within empties voids tells inside)

@@ -217,8 +217,8 @@ pub alike_within : (w : RenderInput) (a b : VariableSet) (d : DryView) (s : Stat
 alike_within w a b d s within h = (h.0, λ v has. h.1 v (within v has))
 
 -- what dry runs read of a state is alike to the state
-pub alike_to_itself : (w : RenderInput) (read : VariableSet) (s : State) → AreAlikeOn w read (state_for_dry_run w.instance.special s) s
-alike_to_itself w read s = (refl, λ v has. refl)
+pub alike_to_itself : (whole : Bool) (w : RenderInput) (read : VariableSet) (s : State) → AreAlikeOn w read (state_for_dry_run whole w.instance.special s) s
+alike_to_itself whole w read s = (refl, λ v has. refl)
 
 pub double_not : (b : Bool) → not (not b) ≡ b
 double_not true = refl

@@ -2,7 +2,7 @@
 -- (CSL 1.0.2, Macro). In one input and state the result for a text that calls a macro depends on the
 -- macro's name alone. One result for each name is enough. It is kept by the name, or by the place of
 -- the first macro of the name. A dry run keeps the set of the variables that it read, too.
-use Rattle.std.specs.Prelude.{◌≡◌, ◌++◌, ℕ, All, Bool, false, List, Option, Some, None}
+use Rattle.std.specs.Prelude.{◌≡◌, ◌++◌, ℕ, All, Bool, false, not, ◌&&◌, List, Option, Some, None, is_some}
 use Rattle.std.specs.BTreeMap.{BTreeMap, get}
 use Rattle.std.specs.Ordering.{nat_cmp}
 use Rattle.csl_elements.specs.declared.taxonomy.Variable.{Variable}
@@ -21,7 +21,7 @@ use Rattle.csl_render.specs.declared.dry_run.KeptCall.{KeptCall}
 use Rattle.csl_render.specs.declared.plan.NodeInfo.{NodeInfo}
 use Rattle.csl_render.specs.declared.plan.PlanItem.{PlanItem}
 use Rattle.csl_render.specs.Names.{author}
-use Rattle.csl_render.specs.Plan.{DryView, AreAlikeOn, answer_of, TellsAuthor}
+use Rattle.csl_render.specs.Plan.{DryView, state_for_dry_run, AreAlikeOn, CountsAs, answer_of, TellsAuthor}
 use Rattle.csl_render.specs.Tree.{nodes_info, any_shows}
 
 -- the dry run of a text that calls a macro, from the macro's nodes, if the style has it
@@ -46,7 +46,7 @@ nodes_of style (Place place) = nodes_at style place
 
 -- a result for a text that calls a macro; `d` is what the dry run read of its state
 abbrev pub IsCallInfo : RenderInput → DryView → Option ExpandedNodes → NodeInfo → Type 0
-IsCallInfo w d nodes i = (s : State) → AreAlikeOn w i.read d s → (answer_of i ≡ call_info w s nodes) × TellsAuthor w i.shows_author (call_shows w s author nodes)
+IsCallInfo w d nodes i = (s : State) → AreAlikeOn w i.read d s → CountsAs d.whole (answer_of i) (call_info w s nodes) × TellsAuthor w i.shows_author (call_shows w s author nodes)
 
 -- each result is that of a text that calls the macro of its name
 abbrev pub HasListed : RenderInput → DryView → List KeptCall → Type 0
@@ -65,13 +65,22 @@ pub record Query (T : Type 0) : Type 0 where
   pub now : ContextView T
   pub variable : Variable
 
--- a context, and the items of the plan so far
+-- a context, whether the run is whole, and the items of the plan so far
 pub record Run (T : Type 0) : Type 0 where
   pub now : ContextView T
+  pub whole : Bool
   pub items : List PlanItem
+
+-- what a dry run reads of the state of its context
+abbrev pub dry_of : {T : Type 0} → Run T → DryView
+dry_of run = state_for_dry_run run.whole run.now.special run.now.state
+
+-- a dry run for a plan may leave nodes out, if there is no special form
+abbrev pub may_stop : {T : Type 0} → Run T → Bool
+may_stop run = not run.whole && not (is_some run.now.special)
 
 -- the run has more items at the end, of which `P`
 pub record Adds {T : Type 0} (P : List PlanItem → Type 0) (old new : Run T) : Type 0 where
   pub more : List PlanItem
-  pub added : new ≡ record { now = old.now; items = old.items ++ more }
+  pub added : new ≡ record { now = old.now; whole = old.whole; items = old.items ++ more }
   pub hold : P more

@@ -7,9 +7,10 @@
 -- without it. In a cite that suppresses the author a result also tells whether the node shows the
 -- author (`TellsAuthor`): names that do are refused. All results of a dry run stand in one list, in
 -- the order of the nodes: each before those for the nodes inside its node. The results for a list
--- of nodes may break off. The nodes after its end have no plan. Only private contracts cite these
--- definitions.
-use Rattle.std.specs.Prelude.{◌≡◌, ◌≤◌, ⊤, ℕ, zero, suc, Bool, true, false, ◌&&◌, List, [], ◌∷◌, length, take, drop, Option, Some, None, if◌then◌else◌}
+-- of nodes may break off. The nodes after its end have no plan. A dry run is *whole* if it tells
+-- all flags. One for a plan may leave out some nodes, and tells what groups count (`CountsAs`). Only
+-- private contracts cite these definitions.
+use Rattle.std.specs.Prelude.{◌≡◌, ◌≤◌, ⊤, ℕ, zero, suc, Bool, true, false, ◌&&◌, ◌||◌, List, [], ◌∷◌, length, take, drop, Option, Some, None, if◌then◌else◌}
 use Rattle.std.specs.Bool.{MatchBool}
 use Rattle.csl_elements.specs.declared.element.Choose.{Choose, out-Choose}
 use Rattle.csl_elements.specs.declared.element.Names.{Names}
@@ -28,7 +29,7 @@ use Rattle.csl_context.specs.State.{State, is_suppressed}
 use Rattle.csl_context.specs.RenderInput.{RenderInput}
 use Rattle.csl_context.specs.Context.{ContextView, render_input}
 use Rattle.csl_nodes.specs.Condition.{all_if, branch_matches}
-use Rattle.csl_nodes.specs.Usage.{Info}
+use Rattle.csl_nodes.specs.Usage.{usage_flags, Info, info_of, without_group_flag}
 use Rattle.csl_render.specs.declared.plan.OwnedPlan.{OwnedPlan}
 use Rattle.csl_render.specs.declared.plan.DryState.{DryState}
 use Rattle.csl_render.specs.declared.plan.ListPlan.{ListPlan}
@@ -50,19 +51,22 @@ asks_for_dates (Some OnlyFirstDate) = true
 asks_for_dates (Some OnlyYearSuffix) = true
 asks_for_dates (Some SuppressAuthor) = false
 
--- the set of the suppressed variables, and whether a date was rendered, if dry runs ask
+-- whether the dry run is whole, the set of the suppressed variables, and whether a date was rendered,
+-- if dry runs ask
 pub record DryView : Type 0 where
+  pub whole : Bool
   pub suppressed : Variable → Bool
   pub first_date_seen : Bool
 
-abbrev pub state_for_dry_run : Option SpecialForm → State → DryView
-state_for_dry_run special s = record {
+abbrev pub state_for_dry_run : Bool → Option SpecialForm → State → DryView
+state_for_dry_run whole special s = record {
+  whole = whole;
   suppressed = s.suppressed;
   first_date_seen = asks_for_dates special && s.first_date_seen;
 }
 
 abbrev pub dry_view : DryState → DryView
-dry_view d = record { suppressed = has d.suppressed; first_date_seen = d.first_date_seen }
+dry_view d = record { whole = false; suppressed = has d.suppressed; first_date_seen = d.first_date_seen }
 
 -- both states suppress the same of these variables
 abbrev pub AreSuppressedAlike : VariableSet → State → State → Type 0
@@ -70,7 +74,7 @@ AreSuppressedAlike read s t = (v : Variable) → Has read v → is_suppressed s 
 
 -- dry runs that read these variables read `d` of the state
 abbrev pub AreAlikeOn : RenderInput → VariableSet → DryView → State → Type 0
-AreAlikeOn w read d s = (d.first_date_seen ≡ (state_for_dry_run w.instance.special s).first_date_seen) × ((v : Variable) → Has read v → d.suppressed v ≡ is_suppressed s v)
+AreAlikeOn w read d s = (d.first_date_seen ≡ (state_for_dry_run d.whole w.instance.special s).first_date_seen) × ((v : Variable) → Has read v → d.suppressed v ≡ is_suppressed s v)
 
 -- the set has the variables that the tests of a branch, or of a choice, look up
 abbrev pub HasTested : VariableSet → Tests → Type 0
@@ -90,6 +94,24 @@ asks_for_author (Some SuppressAuthor) = true
 -- a dry run tells whether nodes show the author, if the special form asks
 abbrev pub TellsAuthor : RenderInput → Bool → Bool → Type 0
 TellsAuthor w told shown = asks_for_author w.instance.special ≡ true → told ≡ shown
+
+-- ---- what a dry run leaves out
+-- Once children of a substitute print and have a variable that is not empty, a dry run for a plan
+-- leaves out those after them. These could only add that a text of a macro prints. No group asks
+-- for that if a variable is not empty.
+
+-- a result as groups count it
+abbrev pub as_counted : Info → Info
+as_counted i = info_of i.prints (usage_flags i.flags.has_vars i.flags.has_non_empty_vars (i.flags.has_non_empty_vars || i.flags.has_used_macros) i.flags.has_non_empty_group)
+
+-- what a dry run tells of a result
+abbrev pub counted : Bool → Info → Info
+counted true i = i
+counted false i = as_counted i
+
+-- a dry run gives the one result where the other is right
+abbrev pub CountsAs : Bool → Info → Info → Type 0
+CountsAs whole given i = counted whole given ≡ counted whole i
 
 -- ---- the branch that a choice takes
 -- A branch is told by the number of branches with conditions before it. The `else` is after all of
@@ -167,7 +189,7 @@ module _ (w : RenderInput) (d : DryView) where
     AreItems (expanded_node f fs) [] = ⊤
     AreItems (expanded_node f fs) (i ∷ is) =
         (i.inside ≤ length is)
-        × ((s : State) → AreAlikeOn w i.info.read d s → (answer_of i.info ≡ info w s f) × TellsAuthor w i.info.shows_author (shows w s author f) × AreItemsInside s f (take i.inside is) × TakesBranch w s f i.info.branch)
+        × ((s : State) → AreAlikeOn w i.info.read d s → CountsAs d.whole (answer_of i.info) (info w s f) × TellsAuthor w i.info.shows_author (shows w s author f) × AreItemsInside s f (take i.inside is) × TakesBranch w s f i.info.branch)
         × AreItems fs (drop i.inside is)
 
     pub AreItemsOfBranches : State → ExpandedBranches → List PlanItem → Type 0
@@ -186,15 +208,20 @@ module _ (w : RenderInput) (d : DryView) where
 
   -- the result for a node, and the items for the nodes inside it
   abbrev pub IsInfo : ExpandedNode → NodeInfo → List PlanItem → Type 0
-  IsInfo f i is = (s : State) → AreAlikeOn w i.read d s → (answer_of i ≡ info w s f) × TellsAuthor w i.shows_author (shows w s author f) × AreItemsInside s f is × TakesBranch w s f i.branch
+  IsInfo f i is = (s : State) → AreAlikeOn w i.read d s → CountsAs d.whole (answer_of i) (info w s f) × TellsAuthor w i.shows_author (shows w s author f) × AreItemsInside s f is × TakesBranch w s f i.branch
 
   -- the result for nodes together, and the items for each
   abbrev pub IsInfoOfNodes : ExpandedNodes → NodeInfo → List PlanItem → Type 0
-  IsInfoOfNodes fs i is = ((s : State) → AreAlikeOn w i.read d s → (answer_of i ≡ nodes_info w s fs) × TellsAuthor w i.shows_author (any_shows w s author fs)) × AreItems fs is
+  IsInfoOfNodes fs i is = ((s : State) → AreAlikeOn w i.read d s → CountsAs d.whole (answer_of i) (nodes_info w s fs) × TellsAuthor w i.shows_author (any_shows w s author fs)) × AreItems fs is
+
+  -- the result for children of a substitute together, but for the group flag, and the items for each
+  abbrev pub IsInfoOfTried : ExpandedNodes → NodeInfo → List PlanItem → Type 0
+  IsInfoOfTried fs i is =
+      ((s : State) → AreAlikeOn w i.read d s → CountsAs d.whole (without_group_flag (answer_of i)) (without_group_flag (nodes_info w s fs)) × TellsAuthor w i.shows_author (any_shows w s author fs)) × AreItems fs is
 
   -- the result for substitutes, and the items for the children of the first
   abbrev pub IsInfoOfSubstitutes : ExpandedSubstitutes → NodeInfo → List PlanItem → Type 0
-  IsInfoOfSubstitutes ss i is = ((s : State) → AreAlikeOn w i.read d s → (answer_of i ≡ substitute_info w s ss) × TellsAuthor w i.shows_author (substitute_shows w s author ss)) × AreItemsOfSubstitutes ss is
+  IsInfoOfSubstitutes ss i is = ((s : State) → AreAlikeOn w i.read d s → CountsAs d.whole (answer_of i) (substitute_info w s ss) × TellsAuthor w i.shows_author (substitute_shows w s author ss)) × AreItemsOfSubstitutes ss is
 
 -- ---- plans
 
@@ -204,7 +231,7 @@ ArePlans w fs p = AreItems w (dry_view p.at.now) fs p.items.now
 
 -- a plan of a node that holds for a state
 abbrev pub IsPlan : RenderInput → State → ExpandedNode → NodePlan → Type 0
-IsPlan w s f p = (info_of_flags p.flags ≡ info w s f) × TellsAuthor w p.shows_author (shows w s author f) × AreItemsInside w (dry_view p.inside.at.now) s f p.inside.items.now × TakesBranch w s f p.branch
+IsPlan w s f p = CountsAs false (info_of_flags p.flags) (info w s f) × TellsAuthor w p.shows_author (shows w s author f) × AreItemsInside w (dry_view p.inside.at.now) s f p.inside.items.now × TakesBranch w s f p.branch
 
 -- a plan of a node with plans of the nodes inside: of these, or of the first of these substitutes
 abbrev pub HasPlans : RenderInput → ExpandedNodes → NodePlan → Type 0
@@ -215,15 +242,15 @@ HasPlansOfSubstitutes w ss p = AreItemsOfSubstitutes w (dry_view p.inside.at.now
 
 -- ---- plans in a context
 
--- what dry runs read of the state of a context
+-- what dry runs for a plan read of the state of a context
 abbrev pub dry_now : {T : Type 0} → ContextView T → DryView
-dry_now now = state_for_dry_run now.special now.state
+dry_now now = state_for_dry_run false now.special now.state
 
 module _ {T : Type 0} (answers : T → Answers) (now : ContextView T) where
   -- what a dry run of a node gives a plan that holds
   abbrev pub IsDryRun : ExpandedNode → OwnedPlan → Type 0
   IsDryRun f r =
-      (info_of_flags r.flags ≡ info (render_input answers now) now.state f)
+      CountsAs false (info_of_flags r.flags) (info (render_input answers now) now.state f)
       × TellsAuthor (render_input answers now) r.shows_author (shows (render_input answers now) now.state author f)
       × AreItemsInside (render_input answers now) (dry_view r.at) now.state f r.inside.items
       × TakesBranch (render_input answers now) now.state f r.branch

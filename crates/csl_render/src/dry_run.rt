@@ -1,11 +1,11 @@
 //! Dry runs over a context that is only read. They write the plan, and keep the result for each
 //! macro.
 
-ghost use Rattle.std.specs.Prelude.{◌≡◌, ◌<◌, ◌-◌, [], length, set, IfOk, IfSome};
+ghost use Rattle.std.specs.Prelude.{◌≡◌, ◌<◌, ◌-◌, true, false, [], length, set, IfOk, IfSome};
 ghost use Rattle.csl_style.specs.Expanded.{macro_env};
 ghost use Rattle.csl_context.specs.Context.{render_input};
-ghost use Rattle.csl_render.specs.DryRun.{Adds, IsCallInfo, nodes_at, nodes_of};
-ghost use Rattle.csl_render.specs.Plan.{dry_now};
+ghost use Rattle.csl_render.specs.DryRun as spec;
+ghost use Rattle.csl_render.specs.DryRun.{Adds, IsCallInfo, dry_of, nodes_at, nodes_of};
 
 use crate::plan::{NodeInfo, PlanItem};
 use csl_context::Context;
@@ -71,6 +71,8 @@ pub(crate) struct KeptCall<'s> {
 #[derive(Drop)]
 pub(crate) struct DryRun<'c, 's, T: EntryLike> {
     ctx: &'c Context<'s, T>,
+    /// Whether the run is to tell all flags, and not only what groups count.
+    whole: bool,
     /// The results for macros, if the style has few.
     listed: Vec<KeptCall<'s>>,
     /// The results for macros, if the style has many.
@@ -86,27 +88,44 @@ impl<'c, 's, T: EntryLike> Model for DryRun<'c, 's, T> {
     ghost use Rattle.csl_elements.specs.SetCode.{set_code};
     ghost use Rattle.csl_context.specs.Context.{render_input};
     ghost use Rattle.csl_render.specs.DryRun.{HasInfos, HasListed, Run};
-    ghost use Rattle.csl_render.specs.Plan.{dry_now};
+    ghost use Rattle.csl_render.specs.Plan.{state_for_dry_run};
 
     ghost Value = { Run T };
 
     ghost coded = { Prim.hlevel
         (codes, set_code, of_macro.the_row.coded, of_layout.the_row.coded) };
 
-    ghost view = { λ r. record { now = r.ctx.now; items = r.items.items } };
+    ghost view = { λ r. record { now = r.ctx.now; whole = r.whole; items = r.items.items } };
 
     ghost invariant = { λ r.
-        HasListed (render_input T.answers r.ctx.now) (dry_now r.ctx.now) r.listed.items
-        × HasInfos (render_input T.answers r.ctx.now) (dry_now r.ctx.now) r.mapped };
+        HasListed (render_input T.answers r.ctx.now)
+        (state_for_dry_run r.whole r.ctx.now.special r.ctx.now.state) r.listed.items
+        × HasInfos (render_input T.answers r.ctx.now)
+        (state_for_dry_run r.whole r.ctx.now.special r.ctx.now.state) r.mapped };
 }
 
 impl<'c, 's, T: EntryLike> DryRun<'c, 's, T> {
+    /// A dry run that tells all flags. It knows no macro yet, and its plan is empty.
+    pub(crate) fn whole(ctx: &'c Context<'s, T>) -> DryRun<'c, 's, T>
+        ensures { result ≡ record { now = ctx.now; whole = true; items = [] } }
+    {
+        DryRun::new(ctx, true)
+    }
+
+    /// A dry run that tells what groups count. It knows no macro yet, and its plan is empty.
+    pub(crate) fn for_plan(ctx: &'c Context<'s, T>) -> DryRun<'c, 's, T>
+        ensures { result ≡ record { now = ctx.now; whole = false; items = [] } }
+    {
+        DryRun::new(ctx, false)
+    }
+
     /// A dry run that knows no macro yet, with an empty plan.
-    pub(crate) fn new(ctx: &'c Context<'s, T>) -> DryRun<'c, 's, T>
-        ensures { result ≡ record { now = ctx.now; items = [] } }
+    fn new(ctx: &'c Context<'s, T>, whole: bool) -> DryRun<'c, 's, T>
+        ensures { result ≡ record { now = ctx.now; whole = whole; items = [] } }
     {
         DryRun {
             ctx,
+            whole,
             listed: Vec::new(ctx.alloc()),
             mapped: BTreeMap::new(ctx.alloc()),
             items: Vec::new(ctx.alloc()),
@@ -118,6 +137,14 @@ impl<'c, 's, T: EntryLike> DryRun<'c, 's, T> {
         ensures { result.now ≡ self.now.now }
     {
         self.ctx
+    }
+
+    /// Whether the run may leave out nodes that change no group: it is for a plan, and there is no
+    /// special form.
+    pub(crate) fn may_stop(&self) -> bool
+        ensures { result ≡ spec.may_stop self.now }
+    {
+        !self.whole && self.ctx.special_form().is_none()
     }
 
     /// Makes room in the plan for a node, before the nodes inside it. Returns its place.
@@ -138,6 +165,7 @@ impl<'c, 's, T: EntryLike> DryRun<'c, 's, T> {
         requires { place < length self.old.items }
         ensures { self.new ≡ record {
           now = self.old.now;
+          whole = self.old.whole;
           items = set self.old.items place
               (record { info = info; inside = length self.old.items - place - 1 });
         } }
@@ -167,7 +195,7 @@ impl<'c, 's, T: EntryLike> DryRun<'c, 's, T> {
     /// The result for a text that calls a macro, if the dry run has kept it.
     pub(crate) fn cached_call(&self, key: CallKey<'s>) -> Option<NodeInfo>
         ensures { IfSome result (IsCallInfo (render_input T.answers self.now.now)
-            (dry_now self.now.now) (nodes_of self.now.now.style key.entry)) }
+            (dry_of self.now) (nodes_of self.now.now.style key.entry)) }
     {
         match key {
             CallKey::Name(name) => self.listed_call(name),
@@ -178,7 +206,7 @@ impl<'c, 's, T: EntryLike> DryRun<'c, 's, T> {
     /// The result for a text that calls the macro of a name, if the list has it.
     fn listed_call(&self, name: &str) -> Option<NodeInfo>
         ensures { IfSome result (IsCallInfo (render_input T.answers self.now.now)
-            (dry_now self.now.now) (macro_env self.now.now.style name.now)) }
+            (dry_of self.now) (macro_env self.now.now.style name.now)) }
     {
         for call in &self.listed {
             if call.name == name {
@@ -191,7 +219,7 @@ impl<'c, 's, T: EntryLike> DryRun<'c, 's, T> {
     /// The result for a text that calls the macro at a place, if the map has it.
     fn mapped_call(&self, place: Option<usize>) -> Option<NodeInfo>
         ensures { IfSome result (IsCallInfo (render_input T.answers self.now.now)
-            (dry_now self.now.now) (nodes_at self.now.now.style place)) }
+            (dry_of self.now) (nodes_at self.now.now.style place)) }
     {
         let place = place?;
         self.mapped.get(&place).copied()
@@ -199,7 +227,7 @@ impl<'c, 's, T: EntryLike> DryRun<'c, 's, T> {
 
     /// Keeps the result for a text that calls a macro.
     pub(crate) fn cache_call(&mut self, key: CallKey<'s>, info: NodeInfo) -> Result<(), Memory>
-        requires { IsCallInfo (render_input T.answers self.old.now) (dry_now self.old.now)
+        requires { IsCallInfo (render_input T.answers self.old.now) (dry_of self.old)
             (nodes_of self.old.now.style key) info }
         ensures { self.new ≡ self.old }
     {
@@ -211,7 +239,7 @@ impl<'c, 's, T: EntryLike> DryRun<'c, 's, T> {
 
     /// Keeps the result for a text that calls the macro of a name in the list.
     fn list_call(&mut self, name: &'s str, info: NodeInfo) -> Result<(), Memory>
-        requires { IsCallInfo (render_input T.answers self.old.now) (dry_now self.old.now)
+        requires { IsCallInfo (render_input T.answers self.old.now) (dry_of self.old)
             (macro_env self.old.now.style name.now) info }
         ensures { self.new ≡ self.old }
     {
@@ -222,7 +250,7 @@ impl<'c, 's, T: EntryLike> DryRun<'c, 's, T> {
 
     /// Keeps the result for a text that calls the macro at a place in the map, if there is one.
     fn map_call(&mut self, place: Option<usize>, info: NodeInfo) -> Result<(), Memory>
-        requires { IsCallInfo (render_input T.answers self.old.now) (dry_now self.old.now)
+        requires { IsCallInfo (render_input T.answers self.old.now) (dry_of self.old)
             (nodes_at self.old.now.style place) info }
         ensures { self.new ≡ self.old }
     {

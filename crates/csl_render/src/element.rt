@@ -5,10 +5,10 @@ ghost use Rattle.std.specs.Prelude.{◌≡◌, true, IfOk, IfSome};
 ghost use Rattle.csl_elements.specs.Node.{expand};
 ghost use Rattle.csl_elements.specs.View.{view_node, view_nodes, view_rendering};
 ghost use Rattle.csl_context.specs.Context.{Runs, Gives, render_input};
-ghost use Rattle.csl_render.specs.DryRun.{Adds};
+ghost use Rattle.csl_render.specs.DryRun.{Adds, dry_of};
 ghost use Rattle.csl_render.specs.Expanded.{expanded, expanded_nodes};
 ghost use Rattle.csl_render.specs.Names.{Macros};
-ghost use Rattle.csl_render.specs.Plan.{dry_now, IsInfoOfNodes, IsDryRunOf, IsPlanOf, HasPlansOf};
+ghost use Rattle.csl_render.specs.Plan.{IsInfoOfNodes, IsInfoOfTried, IsDryRunOf, IsPlanOf, HasPlansOf};
 ghost use Rattle.csl_render.specs.Tree as spec;
 ghost use Rattle.csl_render.specs.Render.{element_rendering, prints_in, after_child};
 ghost use Rattle.csl_nodes.specs.Text.{Appends};
@@ -78,11 +78,36 @@ pub(crate) fn nodes_info<'c, 's, T: EntryLike>(
     run: &mut DryRun<'c, 's, T>,
 ) -> Result<NodeInfo, Memory>
     ensures { IfOk result (λ i. Adds (IsInfoOfNodes (render_input T.answers run.old.now)
-        (dry_now run.old.now) (expanded_nodes run.old.now.style (view_nodes nodes.now)) i)
+        (dry_of run.old) (expanded_nodes run.old.now.style (view_nodes nodes.now)) i)
         run.old run.new) }
 {
     let mut sum = NodeInfo::new(no_info(), VariableSet::new());
     for node in nodes {
+        let place = run.open_node()?;
+        let info = node.node_info(run)?;
+        run.close_node(place, info);
+        sum = sum.with_child(info, is_group(node));
+    }
+    Ok(sum)
+}
+
+/// The dry run of the children of a substitute together. It adds the plan of each. For a plan it
+/// leaves out the children after those that print and have a variable that is not empty.
+#[cycle(info)]
+pub(crate) fn tried_info<'c, 's, T: EntryLike>(
+    nodes: &'s [LayoutRenderingElement],
+    run: &mut DryRun<'c, 's, T>,
+) -> Result<NodeInfo, Memory>
+    ensures { IfOk result (λ i. Adds (IsInfoOfTried (render_input T.answers run.old.now)
+        (dry_of run.old) (expanded_nodes run.old.now.style (view_nodes nodes.now)) i)
+        run.old run.new) }
+{
+    let may_stop = run.may_stop();
+    let mut sum = NodeInfo::new(no_info(), VariableSet::new());
+    for node in nodes {
+        if may_stop && sum.flags.prints_variable() {
+            return Ok(sum);
+        }
         let place = run.open_node()?;
         let info = node.node_info(run)?;
         run.close_node(place, info);
@@ -172,7 +197,7 @@ fn plan_node<'s, T: EntryLike>(
     ensures { IfOk result (IsDryRunOf T.answers ctx.now (view_node node.now)) }
 {
     let at = DryState::of(ctx);
-    let mut run = DryRun::new(ctx);
+    let mut run = DryRun::for_plan(ctx);
     let info = node.node_info(&mut run)?;
     Ok(OwnedPlan::new(at, info, run.into_items()))
 }

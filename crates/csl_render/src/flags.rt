@@ -107,6 +107,15 @@ impl InfoFlags {
         self.has(PRINTS)
     }
 
+    /// Whether the node would print, and calls a variable that is not empty.
+    pub(crate) fn prints_variable(self) -> bool
+        ensures { result ≡ ((spec.info_of_flags self).prints
+            && (spec.info_of_flags self).flags.has_vars
+            && (spec.info_of_flags self).flags.has_non_empty_vars) }
+    {
+        self.has(PRINTS) && self.has(VARS) && self.has(NON_EMPTY_VARS)
+    }
+
     /// The usage flags.
     pub(crate) fn usage(self) -> UsageInfo
         ensures { usage_flags_of result ≡ (spec.info_of_flags self).flags }

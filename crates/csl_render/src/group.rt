@@ -59,7 +59,7 @@ fn plan_group<'s, T: EntryLike>(ctx: &Context<'s, T>, group: &'s Group) -> Resul
     ensures { IfOk result (IsDryRunOf T.answers ctx.now (view_group group.now)) }
 {
     let at = DryState::of(ctx);
-    let mut run = DryRun::new(ctx);
+    let mut run = DryRun::for_plan(ctx);
     let info = group.node_info(&mut run)?;
     Ok(OwnedPlan::new(at, info, run.into_items()))
 }

@@ -22,7 +22,7 @@ impl RenderCsl for Layout {
         &'s self,
         ctx: &mut Context<'s, T>,
     ) -> Result<(bool, UsageInfo), RenderError> {
-        let info = nodes_info(&self.elements, &mut DryRun::new(ctx));
+        let info = nodes_info(&self.elements, &mut DryRun::whole(ctx));
         let info = ctx.attempt(info)?;
         Ok(without_group_flag(info.answer()))
     }

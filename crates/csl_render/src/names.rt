@@ -11,17 +11,17 @@ ghost use Rattle.csl_style.specs.Expanded.{macro_env};
 ghost use Rattle.csl_context.specs.Context.{Runs, Gives, render_input};
 ghost use Rattle.csl_names.specs.NamesForms.{writes_no_name};
 ghost use Rattle.csl_names.specs.NamesLists.{all_empty, peeked_lists, list_of};
-ghost use Rattle.csl_render.specs.DryRun.{Adds};
+ghost use Rattle.csl_render.specs.DryRun.{Adds, dry_of};
 ghost use Rattle.csl_render.specs.Expanded.{expanded, expanded_substitutes};
 ghost use Rattle.csl_render.specs.Names as spec;
 ghost use Rattle.csl_nodes.specs.Text.{Appends, render_output};
 ghost use Rattle.csl_nodes.specs.Usage.{info_view, no_info};
-ghost use Rattle.csl_render.specs.Plan.{asks_for_author, dry_now, IsInfoOfSubstitutes, IsDryRunOf, TellsAuthorOf, IsPlanOf, HasPlansOf, HasPlansWithin};
+ghost use Rattle.csl_render.specs.Plan.{asks_for_author, IsInfoOfSubstitutes, IsDryRunOf, TellsAuthorOf, IsPlanOf, HasPlansOf, HasPlansWithin};
 ghost use Rattle.csl_render.specs.Render.{with_whole_output};
 ghost use Rattle.csl_render.specs.Tree.{node_output, substitute_shows, substitute_output, output_until_text, refused_in, names_output, shorthand_output};
 
 use crate::dry_run::DryRun;
-use crate::element::{any_shows, nodes_info};
+use crate::element::{any_shows, tried_info};
 use crate::node::Node;
 use crate::plan::{DryState, NodeInfo, NodePlan, OwnedPlan, inside_plan, next_plan};
 use crate::query::Query;
@@ -220,12 +220,12 @@ fn substitute_info<'c, 's, T: EntryLike>(
     run: &mut DryRun<'c, 's, T>,
 ) -> Result<NodeInfo, Memory>
     ensures { IfOk result (λ i. Adds (IsInfoOfSubstitutes (render_input T.answers run.old.now)
-        (dry_now run.old.now) (expanded_substitutes run.old.now.style names.now) i)
+        (dry_of run.old) (expanded_substitutes run.old.now.style names.now) i)
         run.old run.new) }
 {
     match substitute_children(names) {
         Some(nodes) => {
-            let info = nodes_info(nodes, run)?;
+            let info = tried_info(nodes, run)?;
             Ok(info.with_flags(info.flags.without_group_flag()))
         }
         None => Ok(NodeInfo::new(no_info(), VariableSet::new())),
@@ -360,7 +360,7 @@ fn ask_names<'s, T: EntryLike>(ctx: &Context<'s, T>, names: &'s Names) -> Result
     ensures { IfOk result (IsDryRunOf T.answers ctx.now (view_names names.now)) }
 {
     let at = DryState::of(ctx);
-    let mut run = DryRun::new(ctx);
+    let mut run = DryRun::for_plan(ctx);
     let info = names.node_info(&mut run)?;
     Ok(OwnedPlan::new(at, info, run.into_items()))
 }

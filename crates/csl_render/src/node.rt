@@ -6,8 +6,8 @@ ghost use Rattle.csl_elements.specs.Node.{ExpandedNode};
 ghost use Rattle.csl_style.specs.Style.{StyleParts};
 ghost use Rattle.csl_context.specs.Context.{Gives, render_input};
 ghost use Rattle.csl_nodes.specs.Text.{Appends};
-ghost use Rattle.csl_render.specs.DryRun.{Adds};
-ghost use Rattle.csl_render.specs.Plan.{dry_now, IsInfo, IsPlan};
+ghost use Rattle.csl_render.specs.DryRun.{Adds, dry_of};
+ghost use Rattle.csl_render.specs.Plan.{IsInfo, IsPlan};
 ghost use Rattle.csl_render.specs.Render.{of_node};
 ghost use Rattle.csl_render.specs.Tree.{node_output, shows};
 
@@ -32,7 +32,7 @@ pub(crate) trait Node {
         run: &mut DryRun<'c, 's, T>,
     ) -> Result<NodeInfo, Memory>
         ensures { IfOk result (λ i. Adds (IsInfo (render_input T.answers run.old.now)
-            (dry_now run.old.now) (expansion run.old.now.style self.now) i) run.old run.new) };
+            (dry_of run.old) (expansion run.old.now.style self.now) i) run.old run.new) };
 
     /// Whether the node shows the variable of the query.
     fn node_shows<'c, 's, T: EntryLike>(
@@ -63,7 +63,7 @@ impl<N: Node> RenderCsl for N {
         &'s self,
         ctx: &mut Context<'s, T>,
     ) -> Result<(bool, UsageInfo), RenderError> {
-        let info = self.node_info(&mut DryRun::new(ctx));
+        let info = self.node_info(&mut DryRun::whole(ctx));
         let info = ctx.attempt(info)?;
         Ok(info.answer())
     }

@@ -3,8 +3,8 @@ use Rattle.csl_elements.specs.Node.{expand}
 use Rattle.csl_elements.specs.View.{view_group}
 use Rattle.csl_style.specs.Expanded.{macro_env}
 use Rattle.csl_context.specs.Context.{render_input}
-use Rattle.csl_render.specs.DryRun.{Adds}
-use Rattle.csl_render.specs.Plan.{dry_now, dry_view, IsInfo}
+use Rattle.csl_render.specs.DryRun.{Adds, dry_of}
+use Rattle.csl_render.specs.Plan.{dry_view, IsInfo}
 use Rattle.csl_render.proofs.Plans.{asked}
 use Rattle.csl_render.proofs.group.plan_group.Goals as goal
 
@@ -14,5 +14,5 @@ returns g c =
     let answers = g.T.EntryLike.answers in
     let n = view_group c.args.group.now in
     let end = c.node_info.new.run in
-    let found = subst (λ r. Adds (IsInfo (render_input answers r.now) (dry_now r.now) (expand (macro_env r.now.style) n) c.in_ok-info.info) r end) c.new-run.ensures c.in_ok-info.ensures in
+    let found = subst (λ r. Adds (IsInfo (render_input answers r.now) (dry_of r) (expand (macro_env r.now.style) n) c.in_ok-info.info) r end) c.for_plan-run.ensures c.in_ok-info.ensures in
     asked answers now (expand (macro_env now.style) n) c.in_ok-info.info end c.new.result found (ap dry_view c.new.ensures.at ∙ c.of-at.ensures) c.new.ensures.flags c.new.ensures.author c.new.ensures.branch (c.new.ensures.inside ∙ c.into_items.ensures)
