@@ -7,8 +7,9 @@ use crate::rendered::Content;
 use crate::request::SpecificLocator;
 use crate::sys::Handle;
 
-/// The library, with the styles that it keeps. An engine stays on its thread. Any number of threads
-/// may have engines of their own. A call takes at most 1 MiB of stack.
+/// The library, with the styles that it keeps. An engine may go from thread to thread, but threads
+/// cannot share one. Any number of threads may have engines of their own. A call needs 512 KiB of
+/// stack.
 pub struct Engine {
     handle: Handle,
 }
