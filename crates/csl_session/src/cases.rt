@@ -30,7 +30,7 @@ pub(crate) fn cased(
 pub(crate) fn cased_text(alloc: Global, text: String, is_english: bool) -> Result<String, Memory>
     ensures { IfOk result (λ cased. IsCasedText (string_bytes text) (string_bytes cased)) }
 {
-    if !has_case_mark(text) {
+    if !has_case_mark(text.as_str()) {
         return Ok(text);
     }
     let mut content = ElemChildren::new(alloc);

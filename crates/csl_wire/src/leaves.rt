@@ -1,7 +1,7 @@
 //! Texts, numbers and labels (CSL 1.0.2, Text, Number, Label).
 //! Definitions: specs/Leaves.antt, specs/Parts.antt.
 
-ghost use Rattle.std.specs.Prelude.{◌≡◌, Some, IfOk};
+ghost use Rattle.std.specs.Prelude.{◌≡◌, ◌&&◌, not, Some, IfOk};
 ghost use Rattle.serde_json.specs.View.{view};
 ghost use Rattle.csl_elements.specs.Names.{view_label};
 ghost use Rattle.csl_elements.specs.View.{view_number};
@@ -117,6 +117,14 @@ fn is_link(target: &TextTarget) -> bool
     }
 }
 
+/// Whether a text is read with the marks of its case, if `marks` are wanted: not one that prints a
+/// link.
+fn takes_marks(marks: bool, target: &TextTarget) -> bool
+    ensures { result ≡ (marks && not (spec.is_link target.now)) }
+{
+    marks && !is_link(target)
+}
+
 /// The members that all texts have, but formatting and affixes.
 static TEXT: [&str; 3] = ["quotes", "strip-periods", "display"];
 
@@ -132,7 +140,8 @@ pub(crate) fn text(reader: Reader, value: &Value) -> Result<Text, WireError>
     let quotes = form.is_true("quotes")?;
     let strip_periods = form.is_true("strip-periods")?;
     let target = text_target(form, source)?;
-    let affixes = cased_affixes(form, reader.marks && !is_link(&target))?;
+    let marks = takes_marks(reader.marks, &target);
+    let affixes = cased_affixes(form, marks)?;
     Ok(Text {
         target,
         formatting,
