@@ -7,8 +7,9 @@ ghost use Rattle.csl.specs.Tree.Tokens.{tokens};
 ghost use Rattle.csl_session.specs.Cases.{IsCased, IsCasedText};
 
 use csl_common::Memory;
-use csl_finish::{apply_text_case, is_case_mark, without_case_marks};
+use csl_finish::{apply_text_case, without_case_marks};
 use csl_tree::{BufWriteFormat, ElemChildren, Formatting};
+use csl_wire::has_reserved;
 use std::alloc::Global;
 
 /// The content with its texts in their cases. `is_english` is whether it is English.
@@ -30,7 +31,7 @@ pub(crate) fn cased(
 pub(crate) fn cased_text(alloc: Global, text: String, is_english: bool) -> Result<String, Memory>
     ensures { IfOk result (λ cased. IsCasedText (string_bytes text) (string_bytes cased)) }
 {
-    if !text.chars().any(|it| is_case_mark(it)) {
+    if !has_reserved(text.as_str()) {
         return Ok(text);
     }
     let mut content = ElemChildren::new(alloc);

@@ -7,7 +7,7 @@ ghost use Rattle.serde_json.specs.View.{members_view, view};
 ghost use Rattle.csl_elements.specs.Dressing.{text_if};
 ghost use Rattle.csl_wire.specs.Reading.{borrowed, pair_by, value_named, read_choice, read_items, read_list, read_member, read_number, read_one};
 ghost use Rattle.csl_wire.specs.Reading as spec;
-ghost use Rattle.csl_finish.specs.CaseMarks.{has_mark};
+ghost use Rattle.csl_finish.specs.CaseMarks as cases;
 ghost use Rattle.csl_wire.specs.Leaves.{has_choice, AreNamedIf, IsNamed, IsNamedIf, IsWordOf};
 ghost use Rattle.csl_wire.specs.Nodes.{read_element};
 ghost use Rattle.std.specs.List.{AllZip};
@@ -113,16 +113,30 @@ pub fn word_of(reader: Reader, value: &Value) -> Result<&str, WireError>
     }
 }
 
+/// Whether a character is reserved: one of U+FDD0 to U+FDEF, of which some are marks of cases.
+fn is_reserved(c: char) -> bool
+    ensures { result ≡ cases.is_case_mark c }
+{
+    is_case_mark(c)
+}
+
+/// Whether a text has a reserved character.
+pub fn has_reserved(text: &str) -> bool
+    ensures { result ≡ cases.has_mark text.now }
+{
+    text.chars().any(is_reserved)
+}
+
 /// Refuses a text that is longer than the limits allow, or has a character that may be a mark of a
 /// case.
 pub fn check_text(reader: Reader, text: &str) -> Result<(), WireError>
     ensures short { OnOk result (length text.now ≤ reader.limits.text) }
-    ensures unmarked { OnOk result (has_mark text.now ≡ false) }
+    ensures unmarked { OnOk result (cases.has_mark text.now ≡ false) }
 {
     if text.len() > reader.limits.text {
         return Err(WireError::of(reader.alloc, Code::TooLong, "the text is too long"));
     }
-    if text.chars().any(|it| is_case_mark(it)) {
+    if has_reserved(text) {
         return Err(WireError::of(
             reader.alloc,
             Code::ReservedCharacter,
@@ -136,7 +150,7 @@ pub fn check_text(reader: Reader, text: &str) -> Result<(), WireError>
 pub fn text_of(reader: Reader, value: &Value) -> Result<String, WireError>
     ensures read { IfOk result (λ t. as_str (view value.now) ≡ Some (string_bytes t)) }
     ensures short { IfOk result (λ t. length (string_bytes t) ≤ reader.limits.text) }
-    ensures unmarked { IfOk result (λ t. has_mark (string_bytes t) ≡ false) }
+    ensures unmarked { IfOk result (λ t. cases.has_mark (string_bytes t) ≡ false) }
 {
     let text = word_of(reader, value)?;
     check_text(reader, text)?;

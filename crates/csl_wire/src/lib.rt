@@ -23,7 +23,7 @@ mod nodes;
 mod refusal;
 mod styles;
 
-pub use form::{Form, check_text, chosen, items_of, members_of, text_of, word_of};
+pub use form::{Form, check_text, chosen, has_reserved, items_of, members_of, text_of, word_of};
 pub use json::value_of_text;
 pub use limits::{Limits, Reader};
 pub use locales::locale_of;
