@@ -2,3 +2,5 @@
 pub mod Kept
 pub mod Replies
 pub mod Rendered
+pub mod Limits
+pub mod Conversation

@@ -5,4 +5,5 @@ mod bounds;
 mod conversation;
 mod documents;
 mod over_lines;
+mod replies_that_wait;
 mod requests;
