@@ -35,7 +35,7 @@ fn assert_waits(
     assert!(rt; conversation.hand_over(room.as_mut_slice()) == Taken::Whole);
     let (reply, rest) = room.as_slice().split_at(length);
     assert_text(rt, str::from_utf8(reply).ok(), Some(wanted));
-    assert!(rt; rest == b"...");
+    assert!(rt; rest == b"...".as_slice());
     assert!(rt; conversation.hand_over(room.as_mut_slice()) == Taken::NoReply);
 }
 
