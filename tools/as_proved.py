@@ -5,7 +5,7 @@ import glob
 import os
 import re
 import subprocess
-from typing import Iterable, Iterator
+from typing import Callable, Iterable, Iterator
 
 from kit import TARGET, OtherKit, kit, read
 from unproved import compiled, link
@@ -71,17 +71,26 @@ def unchecked(text: Iterable[str], kept: re.Pattern[str]) -> Iterator[str]:
         yield line
 
 
+def compiled_anew(given: str, room: str, kept: Iterable[str] = (),
+                  changed: Callable[[Iterable[str]], Iterable[str]] = lambda text: text) -> str:
+    """The object file of a program whose bitcode is given, and whose crates were laid out in the
+    room. The functions `kept` stay out of line too. `changed` may change the text of the program
+    before it is compiled."""
+    functions = "|".join(out_of_line(f"{room}/checkout").union(kept))
+    tools = f"{kit()}/toolchain"
+    clang = [f"{tools}/bin/clang", f"--target={TARGET}", f"--sysroot={tools}"]
+    plain = ["-x", "ir", "-S", "-emit-llvm", "-O0", "-Xclang", "-disable-llvm-passes"]
+    subprocess.run([*clang, *plain, given, "-o", f"{room}/checked.ll"], check=True)
+    heads = re.compile(rf'@"?(?:{functions})(::<|"|\()')
+    with open(f"{room}/checked.ll") as text, open(f"{room}/program.ll", "w") as plain_text:
+        plain_text.writelines(changed(unchecked(counted(text), heads)))
+    subprocess.run([*clang, *COMPILED, f"{room}/program.ll", "-o", f"{room}/program.o"], check=True)
+    return f"{room}/program.o"
+
+
 def built(crate: str, room: str, kept: Iterable[str] = (), given: str | None = None) -> str:
     """The program of a crate that was laid out in the room. The functions `kept` stay out of line
     too. If its bitcode is given, it is not compiled again."""
-    functions = "|".join(out_of_line(f"{room}/checkout").union(kept))
-    checked, tools = given or bitcode(crate, room), f"{kit()}/toolchain"
-    clang = [f"{tools}/bin/clang", f"--target={TARGET}", f"--sysroot={tools}"]
-    plain = ["-x", "ir", "-S", "-emit-llvm", "-O0", "-Xclang", "-disable-llvm-passes"]
-    subprocess.run([*clang, *plain, checked, "-o", f"{room}/checked.ll"], check=True)
-    heads = re.compile(rf'@"?(?:{functions})(::<|"|\()')
-    with open(f"{room}/checked.ll") as text, open(f"{room}/program.ll", "w") as plain_text:
-        plain_text.writelines(unchecked(counted(text), heads))
-    subprocess.run([*clang, *COMPILED, f"{room}/program.ll", "-o", f"{room}/program.o"], check=True)
-    link(f"{room}/program", [f"{room}/program.o"], ("libos_c.a", "liblibc_c.a"))
+    made = compiled_anew(given or bitcode(crate, room), room, kept)
+    link(f"{room}/program", [made], ("libos_c.a", "liblibc_c.a"))
     return f"{room}/program"

@@ -1,6 +1,6 @@
 """The notation of tests/rows as JSON of docs/WIRE.md: styles, layouts, entries, cites and documents."""
 import re
-from typing import Any, Iterable, NamedTuple
+from typing import Any, Iterable, Iterator, NamedTuple
 
 Json = Any
 
@@ -31,6 +31,22 @@ OPTIONS_OF_NAMES = {"and", "delimiter-precedes-et-al", "delimiter-precedes-last"
 # What a style has of a locale of its own.
 OF_LOCALE = ("punctuation-in-quote", "limit-day-ordinals-to-day-1")
 PERSON = {"family", "given", "prefix", "suffix", "comma-suffix"}
+
+
+def lines_of(text: str) -> Iterator[str]:
+    """The lines of a file, each with those that continue it; an empty one after each row."""
+    whole = ""
+    for line in text.splitlines():
+        if line.startswith(" "):
+            whole += f"\n{line}"
+            continue
+        if whole:
+            yield whole
+        whole = "" if line.startswith("#") else line
+        if not line:
+            yield ""
+    yield whole
+    yield ""
 
 
 def text_at(text: str, at: int) -> tuple[str, int] | None:

@@ -12,7 +12,7 @@ ITEM = re.compile(r"(pub(?:\([a-z]+\))? )?(?:final |unsafe )*"
                   r"(fn|struct|enum|trait|type|static|const|mod|use|impl|ghost use|ghost)\b *"
                   r"(\w*)")
 # The head of a function, up to its name.
-FUNCTION = re.compile(r"^( *)(?:pub(?:\([a-z]+\))? )?(?:[a-z]+ )*fn (\w+)", re.M)
+FUNCTION = re.compile(r'^( *)(?:pub(?:\([a-z]+\))? )?(?:[a-z]+ +(?:"C" )?)*fn (\w+)', re.M)
 FIELD = re.compile(r"(pub(?:\([a-z]+\))? )?(\w+): (.*),", re.S)
 VARIANT = re.compile(r"([A-Z]\w*)(.*),", re.S)
 CLAUSE = re.compile(r"^\s*(ensures|requires)\*?(?: (\w+))? (?=\{)", re.M)

@@ -5,14 +5,11 @@
 //! to begin, 4 if standard output refuses a reply, and 5 if standard input cannot be read.
 #![tactic(auto)]
 
-use csl_session::{Ending, Session, SessionLimits, serve};
+use csl_session::{Ending, LONGEST_REQUEST, Session, SessionLimits, serve};
 use std::env;
 use std::io::{self, BufReader, ErrorKind};
 use std::process::ExitCode;
 use std::rt::Env;
-
-/// The longest line, in bytes, without its end.
-const LONGEST_LINE: usize = 32_000_000;
 
 /// The program's words, its name among them.
 fn words(rt: &(impl Env + AllocGlobal)) -> io::Result<Vec<String>> {
@@ -45,7 +42,13 @@ fn status(rt: &(impl Env + Input + Print + AllocGlobal)) -> u8 {
     };
     let mut session = Session::new(alloc, limits);
     let mut writer = io::writer(rt);
-    match serve(alloc, &mut session, &mut reader, &mut writer, LONGEST_LINE) {
+    match serve(
+        alloc,
+        &mut session,
+        &mut reader,
+        &mut writer,
+        LONGEST_REQUEST,
+    ) {
         Ending::Input => 0,
         Ending::Output => 4,
         Ending::Unreadable => 5,

@@ -3,3 +3,5 @@ pub mod Kept
 pub mod Replies
 pub mod Cases
 pub mod Rendered
+pub mod Limits
+pub mod Conversation

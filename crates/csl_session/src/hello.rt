@@ -10,7 +10,7 @@ use std::alloc::Global;
 
 /// The protocol of requests and replies. It changes if a request that was answered is read
 /// otherwise.
-const PROTOCOL: u64 = 1;
+pub const PROTOCOL: u64 = 1;
 
 /// The version of the library.
 const VERSION: &str = "0.8.0";

@@ -1,4 +1,9 @@
 //! What a session allows.
+//! Definitions: specs/Limits.antt.
+
+ghost use Rattle.std.specs.Prelude.{◌≡◌, ◌<◌, ◌↔◌, IsTrue};
+ghost use Rattle.csl_session.specs.Limits as spec;
+ghost use Rattle.csl_session.specs.Limits.{values};
 
 use csl_wire::{Code, Form, Limits, Step, WireError};
 use csl_wire_cite::WorkLimits;
@@ -16,9 +21,14 @@ pub struct StyleLimits {
     pub depth: usize,
 }
 
+/// The longest request of a stranger, in bytes.
+pub const LONGEST_REQUEST: usize = 32_000_000;
+
 /// What a session allows.
 #[derive(Clone, Copy, Debug, PartialEq, Eq)]
 pub struct SessionLimits {
+    /// The most bytes of a request.
+    pub request: usize,
     /// How much is read of a style.
     pub read: Limits,
     /// How large a style may be, if that is limited.
@@ -27,7 +37,7 @@ pub struct SessionLimits {
     pub locales: usize,
     /// The most keys that a style sorts citations by. It sorts a bibliography by no more.
     pub keys: usize,
-    /// The most values of a line, as its characters `{`, `[`, `,` and `:` count them.
+    /// The most values of a request, as its characters `{`, `[`, `,` and `:` count them.
     pub values: usize,
     /// The most items of a request: works, cites, lines or keys. Each has a reply of its own.
     pub items: usize,
@@ -50,6 +60,7 @@ impl SessionLimits {
     /// The limits for requests from strangers.
     pub fn of_strangers() -> SessionLimits {
         SessionLimits {
+            request: LONGEST_REQUEST,
             read: Limits::of_strangers(),
             style: Some(StyleLimits {
                 rendered: 2_000,
@@ -72,6 +83,7 @@ impl SessionLimits {
     /// No limits, for requests that are trusted.
     pub fn none() -> SessionLimits {
         SessionLimits {
+            request: usize::MAX,
             read: Limits::none(),
             style: None,
             locales: usize::MAX,
@@ -94,6 +106,30 @@ impl SessionLimits {
             keys: self.keys,
         }
     }
+}
+
+/// Whether a byte may stand before a value.
+fn is_before_value(byte: u8) -> bool
+    ensures { result ≡ spec.is_before_value byte }
+{
+    matches!(byte, b'{' | b'[' | b',' | b':')
+}
+
+/// Whether a text has more values than so many. A value takes up to a hundred times the memory of
+/// its text.
+pub(crate) fn has_more_values(text: &[u8], most: usize) -> bool
+    ensures { IsTrue result ↔ (most < values text.now) }
+{
+    let mut left = most;
+    for byte in text {
+        if is_before_value(*byte) {
+            if left == 0 {
+                return true;
+            }
+            left -= 1;
+        }
+    }
+    false
 }
 
 /// The items of a member, if there are no more than are allowed.

@@ -8,7 +8,7 @@ use std::io::{self, BufRead, ErrorKind, Read, Write};
 const OUT_OF_MEMORY: &str =
     "{\"error\":{\"at\":\"\",\"code\":\"out-of-memory\",\"message\":\"out of memory\"},\"id\":null}";
 
-/// The reply to a line that is too large.
+/// The reply to a line that is too long.
 const TOO_LARGE: &str =
     "{\"error\":{\"at\":\"\",\"code\":\"too-large\",\"message\":\"the request is larger than is allowed\"},\"id\":null}";
 
@@ -29,31 +29,14 @@ enum Line {
     None,
     /// A line, without its end.
     Whole(Vec<u8>),
-    /// A line that is too long, or has too many values. It was read to its end.
-    TooLarge,
+    /// A line that is too long. It was read to its end.
+    TooLong,
     /// A line for which there was no memory. It was read to its end.
     OutOfMemory,
 }
 
-/// How many characters a line has that may stand before a value. A value takes up to a hundred
-/// times the memory of its text.
-fn count_of_values(line: &[u8]) -> usize {
-    let mut count: usize = 0;
-    for byte in line {
-        if matches!(*byte, b'{' | b'[' | b',' | b':') {
-            count = count.saturating_add(1);
-        }
-    }
-    count
-}
-
-/// Reads the next line, of at most so many bytes and values.
-fn next_line<R: BufRead>(
-    alloc: Global,
-    reader: &mut R,
-    most: usize,
-    values: usize,
-) -> io::Result<Line> {
+/// Reads the next line, of at most so many bytes.
+fn next_line<R: BufRead>(alloc: Global, reader: &mut R, most: usize) -> io::Result<Line> {
     let mut line = Vec::new(alloc);
     let limit = (most as u64).saturating_add(1);
     match reader.by_ref().take(limit).read_until(b'\n', &mut line) {
@@ -71,11 +54,7 @@ fn next_line<R: BufRead>(
     } else if line.len() > most {
         drop(line);
         reader.skip_until(b'\n')?;
-        return Ok(Line::TooLarge);
-    }
-    if count_of_values(line.as_slice()) > values {
-        drop(line);
-        return Ok(Line::TooLarge);
+        return Ok(Line::TooLong);
     }
     Ok(Line::Whole(line))
 }
@@ -97,16 +76,16 @@ pub fn serve<R: BufRead, W: Write>(
     most: usize,
 ) -> Ending {
     for _ in 0..u64::MAX {
-        let Ok(line) = next_line(alloc, reader, most, session.limits.values) else {
+        let Ok(line) = next_line(alloc, reader, most) else {
             return Ending::Unreadable;
         };
         let written = match line {
             Line::None => return Ending::Input,
-            Line::Whole(line) => match session.reply(alloc, line.as_slice()) {
+            Line::Whole(line) => match session.limited_reply(alloc, line.as_slice()) {
                 Ok(reply) => write_line(writer, reply.as_str()),
                 Err(_) => write_line(writer, OUT_OF_MEMORY),
             },
-            Line::TooLarge => write_line(writer, TOO_LARGE),
+            Line::TooLong => write_line(writer, TOO_LARGE),
             Line::OutOfMemory => write_line(writer, OUT_OF_MEMORY),
         };
         if written.is_err() {

@@ -5,13 +5,14 @@ ghost use Rattle.std.specs.Prelude.{◌≡◌, None, Some, IfOk, string_bytes};
 ghost use Rattle.std.specs.Str.{IsUtf8};
 ghost use Rattle.serde_json.specs.Data.{Data, null};
 ghost use Rattle.serde_json.specs.Read.{read};
+ghost use Rattle.csl_session.specs.Limits.{IsWithin};
 ghost use Rattle.csl_session.specs.Replies.{id_of, IsReplyText};
 
 use crate::asked::formats_of;
 use crate::documents::document_value;
 use crate::hello::hello_value;
 use crate::kept::Shelf;
-use crate::limits::{SessionLimits, items_within};
+use crate::limits::{SessionLimits, has_more_values, items_within};
 use crate::op::{OPS, Op};
 use crate::rendering::{Part, item_of, item_value};
 use crate::replies::{outcome_value, reply_text, value_of_bytes};
@@ -46,7 +47,9 @@ fn unknown(alloc: Global, member: &'static str, reason: &'static str, name: &str
 
 impl Session {
     /// A session that keeps nothing yet.
-    pub fn new(alloc: Global, limits: SessionLimits) -> Session {
+    pub fn new(alloc: Global, limits: SessionLimits) -> Session
+        ensures { result.limits ≡ limits }
+    {
         Session {
             limits,
             styles: Shelf::new(alloc, limits.kept_styles),
@@ -176,5 +179,24 @@ impl Session {
             Err(WireError::Memory) => Err(Memory),
             Err(error) => reply_text(alloc, &null, Err(error), self.limits.reply),
         }
+    }
+
+    /// The reply to a request, as [`Session::reply`] gives it. A request of more bytes or values
+    /// than are allowed is refused, and its id is not read.
+    pub fn limited_reply(&mut self, alloc: Global, request: &[u8]) -> Result<String, Memory>
+        ensures json { (d : Data) → IsWithin self.old.limits request.now → IsUtf8 request.now
+            → read request.now ≡ Some d → IfOk result (λ text. IsReplyText (id_of d)
+            (string_bytes text)) }
+        ensures other { (IsWithin self.old.limits request.now → IsUtf8 request.now
+            → read request.now ≡ None) → IfOk result (λ text. IsReplyText null
+            (string_bytes text)) }
+    {
+        let limits = self.limits;
+        if request.len() > limits.request || has_more_values(request, limits.values) {
+            let reason = "the request is larger than is allowed";
+            let refusal = WireError::of(alloc, Code::TooLarge, reason);
+            return reply_text(alloc, &Value::Null, Err(refusal), limits.reply);
+        }
+        self.reply(alloc, request)
     }
 }

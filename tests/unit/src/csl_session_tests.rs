@@ -6,4 +6,5 @@ mod cases;
 mod conversation;
 mod documents;
 mod over_lines;
+mod replies_that_wait;
 mod requests;
