@@ -1,7 +1,7 @@
 //! Texts, numbers and labels (CSL 1.0.2, Text, Number, Label).
 //! Definitions: specs/Leaves.antt, specs/Parts.antt.
 
-ghost use Rattle.std.specs.Prelude.{◌≡◌, Some, IfOk};
+ghost use Rattle.std.specs.Prelude.{◌≡◌, ◌&&◌, not, Some, IfOk};
 ghost use Rattle.serde_json.specs.View.{view};
 ghost use Rattle.csl_elements.specs.Names.{view_label};
 ghost use Rattle.csl_elements.specs.View.{view_number};
@@ -117,10 +117,18 @@ fn is_link(target: &TextTarget) -> bool
     }
 }
 
+/// Whether a case is read as marks around a text: not if it prints a link.
+fn has_marks(reader: Reader, target: &TextTarget) -> bool
+    ensures { result ≡ reader.marks && not (spec.is_link target.now) }
+{
+    reader.marks && !is_link(target)
+}
+
 /// The members that all texts have, but formatting and affixes.
 static TEXT: [&str; 3] = ["quotes", "strip-periods", "display"];
 
 /// A text.
+#[tactic(auto, using(crate::proofs::NodesRead::text_read))]
 pub(crate) fn text(reader: Reader, value: &Value) -> Result<Text, WireError>
     ensures { IfOk result (IsText reader.marks (view value.now)) }
 {
@@ -132,7 +140,7 @@ pub(crate) fn text(reader: Reader, value: &Value) -> Result<Text, WireError>
     let quotes = form.is_true("quotes")?;
     let strip_periods = form.is_true("strip-periods")?;
     let target = text_target(form, source)?;
-    let affixes = cased_affixes(form, reader.marks && !is_link(&target))?;
+    let affixes = cased_affixes(form, has_marks(reader, &target))?;
     Ok(Text {
         target,
         formatting,
