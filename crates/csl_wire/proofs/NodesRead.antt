@@ -1,6 +1,6 @@
 -- Nodes that were read, by the facts of their parts.
 use Rattle.std.proofs.Common.{◌≡◌, ◌≤◌, refl, sym, ap, subst, ◌∙◌, ℕ, ◌+◌, suc, List, length, take, take_all, map, Option, Some, option_map, option_and_then, codes, arith}
-use Rattle.std.specs.Prelude.{Bool, Vec, String}
+use Rattle.std.specs.Prelude.{Bool, Vec, String, not, ◌&&◌}
 use Rattle.std.specs.declared.alloc.Global.{Global}
 use Rattle.std.specs.List.{AllZip}
 use Rattle.serde_json.specs.Data.{Data}
@@ -35,20 +35,20 @@ use Rattle.csl_elements.specs.declared.element.Substitute.{Substitute, roll-Subs
 use Rattle.csl_elements.specs.declared.text.Text.{Text}
 use Rattle.csl_elements.specs.declared.text.TextTarget.{TextTarget}
 use Rattle.csl_elements.specs.declared.text.TextTarget.TheVariants as target
-use Rattle.csl_elements.specs.Dressing.{AffixTexts, Dressing, affix_texts, dressing_of, text_if}
+use Rattle.csl_elements.specs.Dressing.{AffixTexts, Dressing, TextDressing, affix_texts, dressing_of, text_if}
 use Rattle.csl_elements.specs.declared.names.NamePart.{NamePart}
 use Rattle.csl_elements.specs.Names.{view_label, view_name, view_part}
 use Rattle.csl_elements.specs.NamesOptions.{partial_options}
 use Rattle.csl_elements.specs.Node.{Node, Nodes, label}
 use Rattle.csl_elements.specs.View.{NamesChildView, BranchView, a_label, a_name, a_substitute, view_branch, view_child, view_choose, view_group, view_layout, view_names, view_node, view_nodes, view_substitute, view_text, element_step, child_step, choose_step, branch_step, group_step, names_step, substitute_step}
 use Rattle.csl_elements.proofs.Rolled.{branch_made, group_view, in_choose, in_group, in_names, names_view}
-use Rattle.csl_wire.specs.Dressed.{read_affixes, read_display, read_formatting}
-use Rattle.csl_wire.specs.Leaves.{AreNamed, AreNamedIf, IsLabel, IsText, read_dressing}
+use Rattle.csl_wire.specs.Dressed.{read_affixes, read_cased_affixes, read_display, read_formatting}
+use Rattle.csl_wire.specs.Leaves.{AreNamed, AreNamedIf, IsLabel, IsTarget, IsText, is_link, read_cased_dressing, read_dressing, read_text_dressing}
 use Rattle.csl_wire.specs.Named.{date_variable_has, kind_has, locator_has, name_variable_has, variable_has}
 use Rattle.csl_wire.specs.Names.{AreOptions, IsName}
 use Rattle.csl_wire.specs.Parts.{read_label, read_name_part}
 use Rattle.csl_wire.specs.Nodes.{AreNodes, AreNodesIn, has_position, IsBranch, IsChild, IsChildOf, IsNode, IsNodeOf, read_element, read_match}
-use Rattle.csl_wire.specs.Reading.{read_items, read_list, read_member}
+use Rattle.csl_wire.specs.Reading.{read_flag, read_items, read_list, read_member}
 use Rattle.csl_wire.specs.Styles.{IsLayout}
 
 -- ---- nodes by their parts
@@ -147,6 +147,34 @@ name_read marks d options f parts items o e1 e2 e3 = record {
   options_ = o;
   formatting_ = e1;
   parts_ = record { items = items; are = e2; read_as = e3 };
+}
+
+-- ---- texts
+
+cased_dressing_read : (marks : Bool) (d : Data) (f : Formatting) (a : Affixes) (s : Option Display) → read_formatting d ≡ Some f → read_cased_affixes marks d ≡ Some (affix_texts a) → read_display d ≡ Some s → read_cased_dressing marks d ≡ Some (dressing_of f a s)
+cased_dressing_read marks d f a s e1 e2 e3 =
+    ap (option_and_then (λ f2. option_and_then (λ a2. option_map (with_parts f2 a2) (read_display d)) (read_cased_affixes marks d))) e1
+    ∙ (ap (option_and_then (λ a2. option_map (with_parts f a2) (read_display d))) e2
+    ∙ ap (option_map (with_parts f (affix_texts a))) e3)
+
+abbrev with_flags : Dressing → Bool → Bool → TextDressing
+with_flags dressing quotes strip = record { dressing = dressing; quotes = quotes; strip_periods = strip }
+
+text_dressing_read : (marks : Bool) (d : Data) (f : Formatting) (a : Affixes) (s : Option Display) (quotes strip : Bool) → read_formatting d ≡ Some f → read_cased_affixes marks d ≡ Some (affix_texts a) → read_display d ≡ Some s → read_flag (codes "quotes") d ≡ Some quotes → read_flag (codes "strip-periods") d ≡ Some strip → read_text_dressing marks d ≡ Some (with_flags (dressing_of f a s) quotes strip)
+text_dressing_read marks d f a s quotes strip e1 e2 e3 e4 e5 =
+    ap (option_and_then (λ g. option_and_then (λ q. option_map (with_flags g q) (read_flag (codes "strip-periods") d)) (read_flag (codes "quotes") d))) (cased_dressing_read marks d f a s e1 e2 e3)
+    ∙ (ap (option_and_then (λ q. option_map (with_flags (dressing_of f a s) q) (read_flag (codes "strip-periods") d))) e4
+    ∙ ap (option_map (with_flags (dressing_of f a s) quotes)) e5)
+
+-- a text by its parts, with marks if it prints no link
+pub text_read : (marks own : Bool) (d : Data) (t : TextTarget) (f : Formatting) (a : Affixes) (s : Option Display) (quotes strip : Bool)
+    → IsTarget d t → own ≡ marks && not (is_link t)
+    → read_formatting d ≡ Some f → read_cased_affixes own d ≡ Some (affix_texts a) → read_display d ≡ Some s
+    → read_flag (codes "quotes") d ≡ Some quotes → read_flag (codes "strip-periods") d ≡ Some strip
+    → IsText marks d (record { target = t; formatting = f; affixes = a; display = s; quotes = quotes; strip_periods = strip })
+text_read marks own d t f a s quotes strip target e e1 e2 e3 e4 e5 = record {
+  target = target;
+  dressing = subst (λ b. read_text_dressing b d ≡ Some (with_flags (dressing_of f a s) quotes strip)) e (text_dressing_read own d f a s quotes strip e1 e2 e3 e4 e5);
 }
 
 -- ---- nodes as rendering elements

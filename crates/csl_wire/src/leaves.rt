@@ -117,18 +117,18 @@ fn is_link(target: &TextTarget) -> bool
     }
 }
 
-/// Whether a text is read with the marks of its case, if `marks` are wanted: not one that prints a
-/// link.
-fn takes_marks(marks: bool, target: &TextTarget) -> bool
-    ensures { result ≡ (marks && not (spec.is_link target.now)) }
+/// Whether a case is read as marks around a text: not if it prints a link.
+fn has_marks(reader: Reader, target: &TextTarget) -> bool
+    ensures { result ≡ reader.marks && not (spec.is_link target.now) }
 {
-    marks && !is_link(target)
+    reader.marks && !is_link(target)
 }
 
 /// The members that all texts have, but formatting and affixes.
 static TEXT: [&str; 3] = ["quotes", "strip-periods", "display"];
 
 /// A text.
+#[tactic(auto, using(crate::proofs::NodesRead::text_read))]
 pub(crate) fn text(reader: Reader, value: &Value) -> Result<Text, WireError>
     ensures { IfOk result (IsText reader.marks (view value.now)) }
 {
@@ -140,8 +140,7 @@ pub(crate) fn text(reader: Reader, value: &Value) -> Result<Text, WireError>
     let quotes = form.is_true("quotes")?;
     let strip_periods = form.is_true("strip-periods")?;
     let target = text_target(form, source)?;
-    let marks = takes_marks(reader.marks, &target);
-    let affixes = cased_affixes(form, marks)?;
+    let affixes = cased_affixes(form, has_marks(reader, &target))?;
     Ok(Text {
         target,
         formatting,
