@@ -1,2 +1,0 @@
-mod Engines
-pub mod Calls

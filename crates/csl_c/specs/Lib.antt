@@ -1,3 +1,0 @@
--- The definitions that the contracts of `csl_c` cite.
-pub mod Held
-pub mod Exports
