@@ -171,7 +171,7 @@ fn numbers_of_the_citation_and_of_the_entry(rt: HostRuntime) -> Result<(), Fail>
         ] {
             let text = number_text(alloc, cite.resolve_number_variable(alloc, variable)?)?;
             assert_of(&rt, &text.as_str(), &wanted, variable);
-            let either = NumberOrPageVariable::Number(variable);
+            let either: NumberOrPageVariable = variable.into();
             let found = match cite.resolve_number_or_page_variable(alloc, either)? {
                 Some(NumberOrPageVariableResult::Number(number)) => Some(number),
                 _ => None,
