@@ -1,4 +1,4 @@
--- The reply that waits until a caller takes it.
+-- The reply that waits (hosts/c/sulleqti.h).
 use Rattle.std.specs.Prelude.{ℕ, ◌≡◌, ◌<◌, ◌++◌, List, length, drop, Option, Some, None, String, string_bytes}
 use Rattle.std.specs.declared.alloc.Global.{Global}
 use Rattle.csl_session.specs.declared.conversation.Taken.{Taken}

@@ -1,0 +1,2 @@
+mod Engines
+pub mod Calls

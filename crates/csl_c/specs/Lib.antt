@@ -1,0 +1,3 @@
+-- The definitions that the contracts of `csl_c` cite.
+pub mod Held
+pub mod Exports
