@@ -45,6 +45,4 @@ pub use text::{
     render_term, render_value, render_variable, term_info, value_info, variable_info,
     variable_shows,
 };
-pub use usage::{
-    UsageInfo, add_child_info, info_of_group, info_of_macro, no_info, without_group_flag,
-};
+pub use usage::{UsageInfo, no_info, without_group_flag};

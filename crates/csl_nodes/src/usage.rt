@@ -62,23 +62,6 @@ pub fn no_info() -> (bool, UsageInfo)
     (false, UsageInfo::default())
 }
 
-/// The dry run so far, joined with that of a child.
-#[tactic(auto, unfolding(crate::specs::Usage::info_union))]
-pub fn add_child_info(
-    all: (bool, UsageInfo),
-    child: (bool, UsageInfo),
-    is_group: bool,
-) -> (bool, UsageInfo)
-    ensures { spec.info_view result ≡ spec.info_union (spec.info_view all)
-        (spec.as_child_info is_group (spec.info_view child)) }
-{
-    let mut usage = all.1.merge_child(child.1);
-    if is_group && child.0 {
-        usage.has_non_empty_group = true;
-    }
-    (all.0 || child.0, usage)
-}
-
 /// A dry run without its group flag: a layout, a macro, a choice and a substitute count no group
 /// among their nodes.
 pub fn without_group_flag(info: (bool, UsageInfo)) -> (bool, UsageInfo)
@@ -87,23 +70,4 @@ pub fn without_group_flag(info: (bool, UsageInfo)) -> (bool, UsageInfo)
     let (prints, mut usage) = info;
     usage.has_non_empty_group = false;
     (prints, usage)
-}
-
-/// The dry run of a group, by that of its children.
-pub fn info_of_group(info: (bool, UsageInfo)) -> (bool, UsageInfo)
-    ensures { spec.info_view result ≡ spec.group_info (spec.info_view info) }
-{
-    let (prints, usage) = info;
-    (prints && usage.should_render_group(), usage)
-}
-
-/// The dry run of a text of a macro, by that of the macro's nodes.
-pub fn info_of_macro(info: (bool, UsageInfo)) -> (bool, UsageInfo)
-    ensures { spec.info_view result ≡ spec.macro_info (spec.info_view info) }
-{
-    let (prints, mut usage) = info;
-    let shows = usage.should_render_group() && prints;
-    usage.has_used_macros = shows;
-    usage.has_non_empty_group = false;
-    (shows, usage)
 }
