@@ -214,13 +214,13 @@ names_asked w d s env x is h = subst (λ n. AreItemsInside w d s (expand env n) 
 
 -- what a dry run from an empty plan gives
 pub asked : {T : Type 0} (answers : T → Answers) (now : ContextView T) (f : ExpandedNode) (i : NodeInfo) (end : Run T) (r : OwnedPlan) → Adds (IsInfo (render_input answers now) (dry_now now) f i) (record { now = now; whole = false; items = [] }) end
-    → dry_view r.at ≡ dry_now now → r.flags ≡ i.flags → r.shows_author ≡ i.shows_author → r.branch ≡ i.branch → r.inside.items ≡ end.items → IsDryRun answers now f r
+    → dry_view r.at ≡ dry_now end.now → r.flags ≡ i.flags → r.shows_author ≡ i.shows_author → r.branch ≡ i.branch → r.inside.items ≡ end.items → IsDryRun answers now f r
 asked answers now f i end r h at answer told taken inside =
     let w = render_input answers now in
     let holds = h.hold now.state (alike_to_itself false w i.read now.state) in (
       ap (λ flags. counted false (info_of_flags flags)) answer ∙ holds.0,
       λ asks. told ∙ holds.1 asks,
-      subst (λ d. AreItemsInside w d now.state f r.inside.items) (sym at) (subst (AreItemsInside w (dry_now now) now.state f) (sym (inside ∙ ap (λ r. r.items) h.added)) holds.2),
+      subst (λ d. AreItemsInside w d now.state f r.inside.items) (sym (at ∙ ap (λ r. dry_now r.now) h.added)) (subst (AreItemsInside w (dry_now now) now.state f) (sym (inside ∙ ap (λ r. r.items) h.added)) holds.2),
       subst (TakesBranch w now.state f) (sym taken) holds.3,
     )
 

@@ -6,8 +6,9 @@ ghost use Rattle.csl_style.specs.Expanded.{macro_env};
 ghost use Rattle.csl_context.specs.Context.{render_input};
 ghost use Rattle.csl_render.specs.DryRun as spec;
 ghost use Rattle.csl_render.specs.DryRun.{Adds, IsCallInfo, dry_of, nodes_at, nodes_of};
+ghost use Rattle.csl_render.specs.Plan.{dry_now, dry_view};
 
-use crate::plan::{NodeInfo, PlanItem};
+use crate::plan::{DryState, NodeInfo, OwnedPlan, PlanItem};
 use csl_context::Context;
 use csl_entry::EntryLike;
 use csl_nodes::no_info;
@@ -174,11 +175,15 @@ impl<'c, 's, T: EntryLike> DryRun<'c, 's, T> {
         self.items[place] = PlanItem { info, inside };
     }
 
-    /// The plan that the dry run wrote.
-    pub(crate) fn into_items(self) -> Vec<PlanItem>
-        ensures { result.items ≡ self.entry.items }
+    /// The plan of a node, from the node's result. All items are for the nodes inside it.
+    pub(crate) fn into_plan(self, info: NodeInfo) -> OwnedPlan
+        ensures at { dry_view result.at ≡ dry_now self.entry.now }
+        ensures flags { result.flags ≡ info.flags }
+        ensures author { result.shows_author ≡ info.shows_author }
+        ensures branch { result.branch ≡ info.branch }
+        ensures inside { result.inside.items ≡ self.entry.items }
     {
-        self.items
+        OwnedPlan::new(DryState::of(self.ctx), info, self.items)
     }
 
     /// How the result for a text that calls the macro of a name is found.

@@ -15,7 +15,7 @@ ghost use Rattle.csl_nodes.specs.Text.{Appends};
 
 use crate::dry_run::DryRun;
 use crate::node::Node;
-use crate::plan::{DryState, NodeInfo, NodePlan, OwnedPlan, inside_plan, next_plan};
+use crate::plan::{NodeInfo, NodePlan, OwnedPlan, inside_plan, next_plan};
 use crate::query::Query;
 use crate::render::RenderCsl;
 use csl_context::{Context, RenderError};
@@ -196,10 +196,9 @@ fn plan_node<'s, T: EntryLike>(
 ) -> Result<OwnedPlan, Memory>
     ensures { IfOk result (IsDryRunOf T.answers ctx.now (view_node node.now)) }
 {
-    let at = DryState::of(ctx);
     let mut run = DryRun::for_plan(ctx);
     let info = node.node_info(&mut run)?;
-    Ok(OwnedPlan::new(at, info, run.into_items()))
+    Ok(run.into_plan(info))
 }
 
 /// Renders nodes one after another, each by its plan if it has one. `plan` is that of the node
@@ -280,9 +279,9 @@ fn render_planning<'s, T: EntryLike>(
     ensures after { Runs (after_child T.answers first (view_node node.now))
         result ctx.old ctx.new }
 {
-    let asked = plan_node(ctx, node);
-    let asked = ctx.attempt(asked)?;
-    render_by_plan(ctx, node, first, &asked.plan())
+    let plan = plan_node(ctx, node);
+    let plan = ctx.attempt(plan)?;
+    render_by_plan(ctx, node, first, &plan.plan())
 }
 
 /// Renders a node if it prints by its plan, after the inherited delimiter unless it is the first.

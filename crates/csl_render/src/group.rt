@@ -13,7 +13,7 @@ ghost use Rattle.csl_render.specs.Tree.{node_output, shown_if};
 use crate::dry_run::DryRun;
 use crate::element::{any_shows, nodes_info, render_with_delimiter};
 use crate::node::Node;
-use crate::plan::{DryState, NodeInfo, NodePlan, OwnedPlan};
+use crate::plan::{NodeInfo, NodePlan, OwnedPlan};
 use crate::query::Query;
 use csl_context::{BodyDressing, Context, Mark, RenderError};
 use csl_entry::EntryLike;
@@ -48,7 +48,7 @@ impl Node for Group {
     ) -> Result<(), RenderError> {
         match plan {
             Some(plan) => render_group_by_plan(ctx, self, plan),
-            None => render_asked_group(ctx, self),
+            None => render_planning_group(ctx, self),
         }
     }
 }
@@ -58,25 +58,24 @@ impl Node for Group {
 fn plan_group<'s, T: EntryLike>(ctx: &Context<'s, T>, group: &'s Group) -> Result<OwnedPlan, Memory>
     ensures { IfOk result (IsDryRunOf T.answers ctx.now (view_group group.now)) }
 {
-    let at = DryState::of(ctx);
     let mut run = DryRun::for_plan(ctx);
     let info = group.node_info(&mut run)?;
-    Ok(OwnedPlan::new(at, info, run.into_items()))
+    Ok(run.into_plan(info))
 }
 
 /// Renders a group by a dry run.
 #[cycle(render)]
 #[inline(never)]
-fn render_asked_group<'s, T: EntryLike>(
+fn render_planning_group<'s, T: EntryLike>(
     ctx: &mut Context<'s, T>,
     group: &'s Group,
 ) -> Result<(), RenderError>
     ensures { Appends T.answers (λ w. node_output w (expanded w.style (view_group group.now)))
         result ctx.old ctx.new }
 {
-    let asked = plan_group(ctx, group);
-    let asked = ctx.attempt(asked)?;
-    render_group_by_plan(ctx, group, &asked.plan())
+    let plan = plan_group(ctx, group);
+    let plan = ctx.attempt(plan)?;
+    render_group_by_plan(ctx, group, &plan.plan())
 }
 
 /// Renders a group by its plan.

@@ -29,8 +29,8 @@ decreases-text::render_macro g l = 8 * sizes (expand_nodes (macro_env l.ctx.now.
 abbrev pub decreases-group::GroupNode::render_with_plan : goal.decreases-group::GroupNode::render_with_plan
 decreases-group::GroupNode::render_with_plan g l = 8 * size (expand (macro_env l.ctx.now.style) (view_group l.self.now)) + 2
 
-abbrev pub decreases-group::render_asked_group : goal.decreases-group::render_asked_group
-decreases-group::render_asked_group g l = 8 * size (expand (macro_env l.ctx.now.style) (view_group l.group.now)) + 1
+abbrev pub decreases-group::render_planning_group : goal.decreases-group::render_planning_group
+decreases-group::render_planning_group g l = 8 * size (expand (macro_env l.ctx.now.style) (view_group l.group.now)) + 1
 
 abbrev pub decreases-group::render_group_by_plan : goal.decreases-group::render_group_by_plan
 decreases-group::render_group_by_plan g l = 8 * size (expand (macro_env l.ctx.now.style) (view_group l.group.now))
@@ -41,32 +41,32 @@ decreases-choose::ChooseNode::render_with_plan g l = 8 * size (expand (macro_env
 abbrev pub decreases-names::NamesNode::render_with_plan : goal.decreases-names::NamesNode::render_with_plan
 decreases-names::NamesNode::render_with_plan g l = 8 * size (expand (macro_env l.ctx.now.style) (view_names l.self.now))
 
-abbrev pub decreases-names::render_unplanned_names : goal.decreases-names::render_unplanned_names
-decreases-names::render_unplanned_names g l = 8 * expanded_substitutes_size (expanded_substitutes_of (macro_env l.ctx.now.style) l.names.now) + 6
+abbrev pub decreases-names::rendered::render_unplanned_names : goal.decreases-names::rendered::render_unplanned_names
+decreases-names::rendered::render_unplanned_names g l = 8 * expanded_substitutes_size (expanded_substitutes_of (macro_env l.ctx.now.style) l.names.now) + 6
 
-abbrev pub decreases-names::render_asked_names : goal.decreases-names::render_asked_names
-decreases-names::render_asked_names g l = 8 * expanded_substitutes_size (expanded_substitutes_of (macro_env l.ctx.now.style) l.names.now) + 5
+abbrev pub decreases-names::rendered::render_planning_names : goal.decreases-names::rendered::render_planning_names
+decreases-names::rendered::render_planning_names g l = 8 * expanded_substitutes_size (expanded_substitutes_of (macro_env l.ctx.now.style) l.names.now) + 5
 
-abbrev pub decreases-names::render_names_by_plan : goal.decreases-names::render_names_by_plan
-decreases-names::render_names_by_plan g l = 8 * expanded_substitutes_size (expanded_substitutes_of (macro_env l.ctx.now.style) l.names.now) + 4
+abbrev pub decreases-names::rendered::render_names_by_plan : goal.decreases-names::rendered::render_names_by_plan
+decreases-names::rendered::render_names_by_plan g l = 8 * expanded_substitutes_size (expanded_substitutes_of (macro_env l.ctx.now.style) l.names.now) + 4
 
-abbrev pub decreases-names::render_names : goal.decreases-names::render_names
-decreases-names::render_names g l = 8 * expanded_substitutes_size (expanded_substitutes_of (macro_env l.ctx.now.style) l.names.now) + 3
+abbrev pub decreases-names::rendered::render_names : goal.decreases-names::rendered::render_names
+decreases-names::rendered::render_names g l = 8 * expanded_substitutes_size (expanded_substitutes_of (macro_env l.ctx.now.style) l.names.now) + 3
 
-abbrev pub decreases-names::render_lists : goal.decreases-names::render_lists
-decreases-names::render_lists g l = 8 * expanded_substitutes_size (expanded_substitutes_of (macro_env l.ctx.now.style) l.names.now) + 2
+abbrev pub decreases-names::rendered::render_lists : goal.decreases-names::rendered::render_lists
+decreases-names::rendered::render_lists g l = 8 * expanded_substitutes_size (expanded_substitutes_of (macro_env l.ctx.now.style) l.names.now) + 2
 
-abbrev pub decreases-names::render_substitute : goal.decreases-names::render_substitute
-decreases-names::render_substitute g l = 8 * expanded_substitutes_size (expanded_substitutes_of (macro_env l.ctx.now.style) l.names.now) + 1
+abbrev pub decreases-names::rendered::render_substitute : goal.decreases-names::rendered::render_substitute
+decreases-names::rendered::render_substitute g l = 8 * expanded_substitutes_size (expanded_substitutes_of (macro_env l.ctx.now.style) l.names.now) + 1
 
-abbrev pub decreases-names::render_first_substitute : goal.decreases-names::render_first_substitute
-decreases-names::render_first_substitute g l = 8 * sizes (expand_nodes (macro_env l.ctx.now.style) (view_nodes l.nodes.now)) + 1
+abbrev pub decreases-names::rendered::render_first_substitute : goal.decreases-names::rendered::render_first_substitute
+decreases-names::rendered::render_first_substitute g l = 8 * sizes (expand_nodes (macro_env l.ctx.now.style) (view_nodes l.nodes.now)) + 1
 
-abbrev pub decreases-names::render_until_text : goal.decreases-names::render_until_text
-decreases-names::render_until_text g l = 8 * sizes (expand_nodes (macro_env l.ctx.now.style) (view_nodes l.nodes.now))
+abbrev pub decreases-names::rendered::render_until_text : goal.decreases-names::rendered::render_until_text
+decreases-names::rendered::render_until_text g l = 8 * sizes (expand_nodes (macro_env l.ctx.now.style) (view_nodes l.nodes.now))
 
-abbrev pub decreases-names::render_in_place : goal.decreases-names::render_in_place
-decreases-names::render_in_place g l = 8 * size (expand (macro_env l.ctx.now.style) (view_node l.node.now)) + 4
+abbrev pub decreases-names::rendered::render_in_place : goal.decreases-names::rendered::render_in_place
+decreases-names::rendered::render_in_place g l = 8 * size (expand (macro_env l.ctx.now.style) (view_node l.node.now)) + 4
 
 abbrev pub decreases-element::render_all : goal.decreases-element::render_all
 decreases-element::render_all g l = 8 * sizes (expand_nodes (macro_env l.ctx.now.style) (view_nodes l.nodes.now))
@@ -112,8 +112,8 @@ invariant-element::render_with_delimiter-loop-node g l =
     }
 
 -- the rendering so far, with the remaining nodes up to the first that adds text, is that of all
-abbrev pub invariant-names::render_until_text-loop-node : goal.invariant-names::render_until_text-loop-node
-invariant-names::render_until_text-loop-node g l =
+abbrev pub invariant-names::rendered::render_until_text-loop-node : goal.invariant-names::rendered::render_until_text-loop-node
+invariant-names::rendered::render_until_text-loop-node g l =
     let w = render_input g.T.EntryLike.answers l.fn.ctx in
     let rest = view_nodes (drop l.node-index l.nodes) in
     let all = view_nodes l.nodes in

@@ -4,7 +4,7 @@ use Rattle.csl_elements.specs.View.{view_node}
 use Rattle.csl_style.specs.Expanded.{macro_env}
 use Rattle.csl_context.specs.Context.{render_input}
 use Rattle.csl_render.specs.DryRun.{Adds, dry_of}
-use Rattle.csl_render.specs.Plan.{dry_view, IsInfo}
+use Rattle.csl_render.specs.Plan.{IsInfo}
 use Rattle.csl_render.proofs.Plans.{asked}
 use Rattle.csl_render.proofs.element.plan_node.Goals as goal
 
@@ -15,4 +15,4 @@ returns g c =
     let n = view_node c.args.node.now in
     let end = c.node_info.new.run in
     let found = subst (λ r. Adds (IsInfo (render_input answers r.now) (dry_of r) (expand (macro_env r.now.style) n) c.in_ok-info.info) r end) c.for_plan-run.ensures c.in_ok-info.ensures in
-    asked answers now (expand (macro_env now.style) n) c.in_ok-info.info end c.new.result found (ap dry_view c.new.ensures.at ∙ c.of-at.ensures) c.new.ensures.flags c.new.ensures.author c.new.ensures.branch (c.new.ensures.inside ∙ c.into_items.ensures)
+    asked answers now (expand (macro_env now.style) n) c.in_ok-info.info end c.into_plan.result found c.into_plan.ensures.at c.into_plan.ensures.flags c.into_plan.ensures.author c.into_plan.ensures.branch c.into_plan.ensures.inside

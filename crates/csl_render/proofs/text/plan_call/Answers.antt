@@ -5,7 +5,7 @@ use Rattle.csl_style.specs.Expanded.{macro_env}
 use Rattle.csl_context.specs.Context.{render_input}
 use Rattle.csl_nodes.specs.Usage.{without_group_flag, macro_info}
 use Rattle.csl_render.specs.DryRun.{Adds, Run, dry_of}
-use Rattle.csl_render.specs.Plan.{dry_now, dry_view, IsInfo, IsInfoOfNodes}
+use Rattle.csl_render.specs.Plan.{dry_now, IsInfo, IsInfoOfNodes}
 use Rattle.csl_render.proofs.Counted.{macro_counts}
 use Rattle.csl_render.proofs.Plans.{adds_as, asked, around}
 use Rattle.csl_render.proofs.text.plan_call.Goals as goal
@@ -25,4 +25,4 @@ returns g c d =
     let end = c.nodes_info.new.run in
     let found = subst (λ r. Adds (IsInfoOfNodes (render_input answers r.now) (dry_of r) (expand_nodes (macro_env r.now.style) ns) nodes) r end) c.for_plan-run.ensures c.in_ok-info.ensures in
     let called = adds_as (IsInfoOfNodes w at fs nodes) (IsInfo w at f call.result) start end (λ is h. around w at nodes call.result call.ensures.read call.ensures.author fs (λ i. macro_info (without_group_flag i)) is macro_counts h (call.ensures.answer ∙ c.of_macro.ensures)) found in
-    asked answers now f call.result end c.new.result called (ap dry_view c.new.ensures.at ∙ c.of-at.ensures) c.new.ensures.flags c.new.ensures.author c.new.ensures.branch (c.new.ensures.inside ∙ c.into_items.ensures)
+    asked answers now f call.result end c.into_plan.result called c.into_plan.ensures.at c.into_plan.ensures.flags c.into_plan.ensures.author c.into_plan.ensures.branch c.into_plan.ensures.inside
