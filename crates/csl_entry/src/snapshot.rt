@@ -64,8 +64,8 @@ impl Snapshot {
         ensures silent { IfOk result (λ s. (q : NamedItem) → named_set named.now q ≡ false
             → SameAnswer (snapshot_answers s) no_answers q) }
 
-        // It equals the snapshot of an entry with other answers exactly if they are alike on what is
-        // named.
+        // It equals the snapshot of an entry with other answers exactly if they are alike on what
+        // is named.
         ensures equal { IfOk result (λ s. (t : Snapshot) (others : Answers)
             → kept_of t ≡ snapshot_of named.now others → Decides (⟦<Snapshot as PartialEq>⟧.eq s t)
             (SameNamedAnswers (named_set named.now) (T.answers entry.now) others)) }

@@ -1,6 +1,6 @@
-//! Marks around a text whose case a style sets (CSL 1.0.2, Text-case). They are noncharacters, which
-//! Unicode keeps for a program's own use. A reader of styles ends the prefix of a node with one, and
-//! begins its suffix with another.
+//! Marks around a text whose case a style sets (CSL 1.0.2, Text-case). They are noncharacters,
+//! which Unicode keeps for a program's own use. A reader of styles ends the prefix of a node with
+//! one, and begins its suffix with another.
 //! Definitions: specs/CaseMarks.antt.
 
 ghost use Rattle.std.specs.Prelude.{◌≡◌, false, IfOk, string_bytes};

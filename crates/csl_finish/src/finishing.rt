@@ -32,16 +32,16 @@ fn with_quotes(alloc: Global, style: &Style, letters: Vec<Letter>) -> Result<Vec
 /// Finishes the texts of a content.
 ///
 /// - *Quotes*: those in the text become those of the style's language, and quotes inside of quotes
-///   alternate between the outer and the inner ones. Before a letter `’` is an apostrophe. Between a
-///   space, a bracket or an opening mark and a letter, a mark opens a quote if it may: in German
+///   alternate between the outer and the inner ones. Before a letter `’` is an apostrophe. Between
+///   a space, a bracket or an opening mark and a letter, a mark opens a quote if it may: in German
 ///   `“`, which opens one in English, closes one elsewhere.
 /// - *Commas and periods* after closing quotes move into them, through several, if the first locale
 ///   says so (CSL 1.0.2, Locale Options: punctuation-in-quote). After `?` or `!` they are left out.
 /// - *Marks in a row*, in one text or where texts join: one of them stays, as in citeproc-js. Of
-///   `..`, `. .`, `,,`, `;;` and `::` it is the first, of `?.`, `!.`, `?:` and `!:` the mark that ends
-///   a sentence, of `:.`, `;.` and `;:` the first, of `:?`, `:!`, `;?` and `;!` the second. Three
-///   periods in one text are an ellipsis and stay, also with spaces between them. So does a period
-///   before a letter, a digit or a slash of its own text.
+///   `..`, `. .`, `,,`, `;;` and `::` it is the first, of `?.`, `!.`, `?:` and `!:` the mark that
+///   ends a sentence, of `:.`, `;.` and `;:` the first, of `:?`, `:!`, `;?` and `;!` the second.
+///   Three periods in one text are an ellipsis and stay, also with spaces between them. So does a
+///   period before a letter, a digit or a slash of its own text.
 /// - *Spaces*: one of two stays, and none before a comma or a period. If the quotes are those of
 ///   French, a space before `;`, `:`, `!`, `?` and `»`, and one after `«`, becomes a narrow one.
 ///

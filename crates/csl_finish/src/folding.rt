@@ -108,13 +108,12 @@ fn folded_letters(alloc: Global, letters: &[char]) -> Result<String, Memory>
     Ok(folded)
 }
 
-/// A text to sort by, character for character. Case, accents and punctuation do
-/// not count:
+/// A text to sort by, character for character. Case, accents and punctuation do not count:
 ///
 /// - letters are small ones (full case folding, so `ß` is `ss`), without the accents that Unicode
 ///   decomposes (NFKD): `É` is `e`, `ñ` is `n`, `ё` is `е`, and `ﬁ` is `fi`;
-/// - `æ` is `ae`, `œ` is `oe`, `þ` is `th`, `ð` and `đ` are `d`, `ħ` is `h`, `ı` is `i`, `ł` is `l`,
-///   `ŋ` is `n`, `ø` is `o`, `ŧ` is `t`;
+/// - `æ` is `ae`, `œ` is `oe`, `þ` is `th`, `ð` and `đ` are `d`, `ħ` is `h`, `ı` is `i`, `ł` is
+///   `l`, `ŋ` is `n`, `ø` is `o`, `ŧ` is `t`;
 /// - of the rest letters, digits and spaces stay, and nothing else.
 ///
 /// The letter before nine digits that begins the key of a year, as in `P000002015`, becomes `#`, or

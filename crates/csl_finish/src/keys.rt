@@ -34,8 +34,8 @@ pub enum KeyText {
 }
 
 impl KeyText {
-    /// The key of a text that was folded by the caller, for example to the key of a collation. It is
-    /// [`KeyText::Empty`] if the text itself is empty.
+    /// The key of a text that was folded by the caller, for example to the key of a collation. It
+    /// is [`KeyText::Empty`] if the text itself is empty.
     pub fn new(folded: String, text: String, direction: SortDirection) -> KeyText
         ensures { result ≡ spec.key_of direction folded text }
     {

@@ -98,8 +98,8 @@ fn digraph_capital(letter: char) -> Option<char>
     }
 }
 
-/// Appends a letter as the first one of a capitalized word. If it becomes several letters, the first
-/// alone is a capital: `ß` is `Ss`, and `ﬁ` is `Fi`.
+/// Appends a letter as the first one of a capitalized word. If it becomes several letters, the
+/// first alone is a capital: `ß` is `Ss`, and `ﬁ` is `Fi`.
 fn push_capital(cased: &mut Vec<Letter>, letter: Letter) -> Result<(), Memory> {
     if is_fixed(letter) || !changes_when_titlecased(letter.value) {
         cased.push(letter)?;

@@ -1,6 +1,6 @@
 //! The steps between a rendered tree and a printed list: the case of texts (`apply_text_case`),
-//! punctuation and quotes (`finish`), texts to sort by (`fold`), the order of sort keys (`order_of`),
-//! and which links stay (`with_web_links`).
+//! punctuation and quotes (`finish`), texts to sort by (`fold`), the order of sort keys
+//! (`order_of`), and which links stay (`with_web_links`).
 //!
 //! Rendering has no text case. A reader of styles who wants it ends the prefix of a node with the
 //! mark of a case (`TextCase::start_mark`), and begins its suffix with the other one

@@ -63,7 +63,8 @@ impl<'s> Quotes<'s> {
         }
     }
 
-    /// The mark that closes a quote that this mark opens, in this language, in English or in French.
+    /// The mark that closes a quote that this mark opens, in this language, in English or in
+    /// French.
     fn closing(&self, mark: char) -> Option<char> {
         if mark_of(self.outer.open) == Some(mark) {
             return mark_of(self.outer.close);

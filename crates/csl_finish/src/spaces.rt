@@ -33,8 +33,8 @@ fn narrowed(letter: Letter, is_beside_mark: bool) -> Letter
     letter
 }
 
-/// The letters with a narrow space for each space before a French mark, or after the mark that opens
-/// a quote.
+/// The letters with a narrow space for each space before a French mark, or after the mark that
+/// opens a quote.
 #[tactic(auto, using(crate::proofs::Marks::pushes))]
 pub(crate) fn with_narrow_spaces(alloc: Global, letters: &[Letter]) -> Result<Vec<Letter>, Memory>
     ensures { IfOk result (λ narrow. words narrow.items ≡ words letters.now) }

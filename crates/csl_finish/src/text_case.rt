@@ -47,8 +47,8 @@ fn push_in_case(
     }
 }
 
-/// The start of the innermost open text in a case. It is open no longer, and neither are those inside
-/// of it.
+/// The start of the innermost open text in a case. It is open no longer, and neither are those
+/// inside of it.
 fn ended(open: &mut Vec<OpenText>, case: TextCase) -> Option<usize> {
     let index = open.iter().rposition(|it| it.case == case)?;
     let start = open.get(index)?.start;
@@ -102,15 +102,15 @@ fn cased_letters(
 
 /// Puts the texts between marks into their cases, and removes the marks.
 ///
-/// A text may be in several leaves of the content, and in one part of a leaf. Of texts in one another
-/// the inner ones are put into their cases first: an `in` in lowercase that begins a text in
-/// `capitalize-first` is `In`. The words of a text are letters and digits in a row, with the accents
-/// over them, and an apostrophe or a period between two of them.
+/// A text may be in several leaves of the content, and in one part of a leaf. Of texts in one
+/// another the inner ones are put into their cases first: an `in` in lowercase that begins a text
+/// in `capitalize-first` is `In`. The words of a text are letters and digits in a row, with the
+/// accents over them, and an apostrophe or a period between two of them.
 ///
-/// `is_english` is whether the text is English (CSL 1.0.2, Text-case: Non-English Items), and decides
-/// on title case alone. A title without a small letter stays, as `PLOS` does, where CSL has `Plos`.
-/// Letters change as Unicode has it for languages without rules of their own, so `i` becomes `I` in
-/// Turkish too.
+/// `is_english` is whether the text is English (CSL 1.0.2, Text-case: Non-English Items), and
+/// decides on title case alone. A title without a small letter stays, as `PLOS` does, where CSL has
+/// `Plos`. Letters change as Unicode has it for languages without rules of their own, so `i`
+/// becomes `I` in Turkish too.
 ///
 /// Links, markup and places for texts of cites keep their case. A text that is left empty is
 /// removed. A mark without its partner sets no case. A text inside of sixteen others has none.

@@ -50,7 +50,8 @@ fn push_some(children: &mut Vec<ElemChild>, child: Option<ElemChild>) -> Result<
     Ok(())
 }
 
-/// A copy of the content without marks, in which each text is the next of `texts`, and none is empty.
+/// A copy of the content without marks, in which each text is the next of `texts`, and none is
+/// empty.
 #[cycle(unmarked)]
 pub(crate) fn with_unmarked_texts(
     alloc: Global,
@@ -69,8 +70,8 @@ pub(crate) fn with_unmarked_texts(
     Ok(ElemChildren(copies))
 }
 
-/// A copy of the child without marks, in which each text is the next of `texts`. A text that is empty
-/// has none.
+/// A copy of the child without marks, in which each text is the next of `texts`. A text that is
+/// empty has none.
 #[cycle(unmarked)]
 fn unmarked_child(
     alloc: Global,

@@ -39,7 +39,8 @@ fn is_range(between: &str) -> bool {
     }
 }
 
-/// Adds what stands between two digits: a hyphen, if it makes them a range. Returns whether it does.
+/// Adds what stands between two digits: a hyphen, if it makes them a range. Returns whether it
+/// does.
 fn push_between(marked: &mut String, between: &str) -> Result<bool, Memory> {
     let is_range = is_range(between);
     marked.push_str(if is_range { "-" } else { between })?;

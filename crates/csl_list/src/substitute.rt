@@ -233,8 +233,8 @@ fn put_among(
     push_after_names(alloc, style, list, after)
 }
 
-/// The same among the children, or those of the first element inside that has names. Returns whether
-/// there are names.
+/// The same among the children, or those of the first element inside that has names. Returns
+/// whether there are names.
 #[cycle(put_all)]
 fn put_for_all(
     alloc: Global,
@@ -257,8 +257,8 @@ fn put_for_all(
     Ok(is_put)
 }
 
-/// Puts the substitute in the place of all names that a content begins with, as one, or of the first
-/// of them, each by itself.
+/// Puts the substitute in the place of all names that a content begins with, as one, or of the
+/// first of them, each by itself.
 fn put_substitute(
     alloc: Global,
     style: &Style,

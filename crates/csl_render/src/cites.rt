@@ -258,10 +258,10 @@ pub fn cite_pair<T: EntryLike, U: EntryLike>(
     Ok(pair)
 }
 
-/// Renders a cite of each of two entries, as [`cite_pair`] does, and compares their answers on a set
-/// of variables and kinds: on what `csl_style::named_by` returns for the citation layout, so that a
-/// caller with many pairs asks for it once. By a set that has everything that the layout names,
-/// cites of alike entries are equal in content, state and HTML.
+/// Renders a cite of each of two entries, as [`cite_pair`] does, and compares their answers on a
+/// set of variables and kinds: on what `csl_style::named_by` returns for the citation layout, so
+/// that a caller with many pairs asks for it once. By a set that has everything that the layout
+/// names, cites of alike entries are equal in content, state and HTML.
 ///
 /// # Errors
 /// [`RenderError::Memory`]: out of memory, here or in an entry.

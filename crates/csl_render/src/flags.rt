@@ -150,8 +150,8 @@ impl InfoFlags {
         self.usage().should_render_group() && self.prints()
     }
 
-    /// The dry run of a child as its parent counts it: the group flag is whether the child is itself
-    /// a group that prints.
+    /// The dry run of a child as its parent counts it: the group flag is whether the child is
+    /// itself a group that prints.
     fn as_child(self, is_group: bool) -> InfoFlags
         ensures { spec.info_of_flags result ≡ as_child_info is_group (spec.info_of_flags self) }
     {

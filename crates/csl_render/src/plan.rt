@@ -182,8 +182,8 @@ pub(crate) struct OwnedPlan {
 }
 
 impl OwnedPlan {
-    /// A plan that owns its items, from the state that the dry run read, its result, and the plan of
-    /// the nodes inside.
+    /// A plan that owns its items, from the state that the dry run read, its result, and the plan
+    /// of the nodes inside.
     pub(crate) fn new(at: DryState, info: NodeInfo, inside: Vec<PlanItem>) -> OwnedPlan
         ensures at { result.at ≡ at }
         ensures flags { result.flags ≡ info.flags }

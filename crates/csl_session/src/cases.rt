@@ -1,5 +1,5 @@
-//! The cases that a style sets for texts, in what a request renders (CSL 1.0.2, Text-case). The kept
-//! styles have marks of them in their affixes.
+//! The cases that a style sets for texts, in what a request renders (CSL 1.0.2, Text-case). The
+//! kept styles have marks of them in their affixes.
 //! Definitions: specs/Cases.antt.
 
 ghost use Rattle.std.specs.Prelude.{IfOk, string_bytes};

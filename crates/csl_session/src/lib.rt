@@ -1,6 +1,6 @@
 //! Requests and replies as JSON (docs/HOSTS.md): a [`Session`] keeps styles and works by names,
-//! and renders cites, lines of a bibliography, sort keys and whole documents by them. [`serve`] answers a request a
-//! line; a [`Conversation`] has the reply wait.
+//! and renders cites, lines of a bibliography, sort keys and whole documents by them. [`serve`]
+//! answers a request a line; a [`Conversation`] has the reply wait.
 //!
 //! An error that the docs of a call do not explain means out of memory.
 #![tactic(auto)]

@@ -71,8 +71,8 @@ impl Session {
         }
     }
 
-    /// One item of a batch: by a kept work, which it names, or by a work of its own. `is_english` is
-    /// whether works are English that do not say so themselves.
+    /// One item of a batch: by a kept work, which it names, or by a work of its own. `is_english`
+    /// is whether works are English that do not say so themselves.
     fn item_value(
         &self,
         alloc: Global,

@@ -78,8 +78,8 @@ impl ElemChildren {
         // Exactly the links that it rejects become their texts, whatever its result depends on.
         ensures in_turn { (after : F) × KeepsInTurn (CalledAt F.FnMut) is_allowed
             (tokens self.old) (tokens self.new) after }
-        // If its result depends on the address alone, exactly the links that it rejects become their
-        // texts.
+        // If its result depends on the address alone, exactly the links that it rejects become
+        // their texts.
         ensures kept { (allowed : List ℕ → Bool) → ComputesKey F.FnMut allowed is_allowed
             → tokens self.new ≡ kept_links allowed (tokens self.old) }
         ensures allowed { (allowed : List ℕ → Bool) → ComputesKey F.FnMut allowed is_allowed

@@ -14,8 +14,8 @@ use std::alloc::Global;
 /// The JSON value of a text. Of several members of one name, the last counts.
 ///
 /// # Errors
-/// [`WireError::Refused`], with [`Code::NotJson`](crate::Code::NotJson): the text is no JSON, or JSON
-/// of more than 127 levels.
+/// [`WireError::Refused`], with [`Code::NotJson`](crate::Code::NotJson): the text is no JSON, or
+/// JSON of more than 127 levels.
 pub fn value_of_text(alloc: Global, text: &str) -> Result<Value, WireError>
     ensures value { IfOk result (λ v. read text.now ≡ Some (view v)) }
     ensures levels { IfOk result (λ v. depth (view v) ≤ max_depth) }

@@ -7,8 +7,8 @@ use std::alloc::Global;
 /// How much of a value is read.
 #[derive(Clone, Copy, Debug, PartialEq, Eq)]
 pub struct Limits {
-    /// The most bytes of one text: of an affix, a delimiter, a value, a word of a locale, or the name
-    /// of a macro.
+    /// The most bytes of one text: of an affix, a delimiter, a value, a word of a locale, or the
+    /// name of a macro.
     pub text: usize,
 }
 

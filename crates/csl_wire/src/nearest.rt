@@ -7,8 +7,8 @@ use strsim::levenshtein;
 /// The longest word that a name is sought for.
 const LONGEST: usize = 60;
 
-/// The place of the first name that is nearest to a word, if it takes few edits: at most one, and one
-/// more for each four bytes of the word.
+/// The place of the first name that is nearest to a word, if it takes few edits: at most one, and
+/// one more for each four bytes of the word.
 fn nearest_place(alloc: Global, names: &[&str], word: &str) -> Result<Option<usize>, AllocError> {
     let mut nearest = None;
     let mut fewest = 2 + word.len() / 4;

@@ -205,8 +205,8 @@ impl WireError {
         WireError::with(alloc, code, reason, Detail::Plain)
     }
 
-    /// The refusal of a value for a word, and perhaps the name that is nearest to it. A long word is
-    /// not named.
+    /// The refusal of a value for a word, and perhaps the name that is nearest to it. A long word
+    /// is not named.
     pub fn of_word(
         alloc: Global,
         code: Code,

@@ -83,7 +83,8 @@ fn options_of(
     Ok(options)
 }
 
-/// The options of citations of a style of the class `in-text`. One that is absent has CSL's default.
+/// The options of citations of a style of the class `in-text`. One that is absent has CSL's
+/// default.
 ///
 /// # Errors
 /// [`WireError::Refused`]: the value is no options of citations within the limits.

@@ -26,8 +26,8 @@ pub struct WireDocument<'v> {
 }
 
 impl<'v> NamedWork<'v> {
-    /// The error of this work, as one of the document: its place is the one where the document names
-    /// the work first.
+    /// The error of this work, as one of the document: its place is the one where the document
+    /// names the work first.
     pub fn refused(&self, error: WireError) -> WireError {
         match self.first {
             Mention::Cite { citation, item } => error
