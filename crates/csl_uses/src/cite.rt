@@ -182,7 +182,8 @@ pub fn house_style(alloc: Global) -> Result<Style, Error> {
 /// # Errors
 /// [`Error::Memory`]: out of memory, here or in the entry.
 pub fn cite<T: EntryLike>(alloc: Global, style: &Style, entry: &T) -> Result<ElemChildren, Error>
-    ensures { IfOk result (λ content. tokens content ≡ cite_content style.now (T.answers entry.now)) }
+    ensures { IfOk result (λ content. tokens content
+        ≡ cite_content style.now (T.answers entry.now)) }
 {
     let first = CiteProperties::first(DisambiguateState::None);
     let rendered = csl::cite(alloc, style, entry, &first)?;

@@ -22,7 +22,8 @@ static DATE_PART: [&str; 3] = ["name", "form", "strip-periods"];
 
 /// A part of a date.
 fn date_part(reader: Reader, value: &Value) -> Result<DatePart, WireError>
-    ensures { IfOk result (λ p. read_date_part reader.marks (view value.now) ≡ Some (view_date_part p)) }
+    ensures { IfOk result (λ p. read_date_part reader.marks (view value.now)
+        ≡ Some (view_date_part p)) }
 {
     let form = Form::of(reader, value, &[&DATE_PART, &FORMATTING, &CASED_AFFIXES])?;
     Ok(DatePart {

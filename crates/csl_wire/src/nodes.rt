@@ -43,7 +43,8 @@ static GROUP: [&str; 3] = ["delimiter", "display", "children"];
 #[cycle(node)]
 #[tactic(auto, using(crate::proofs::NodesRead::group_read))]
 fn group(reader: Reader, value: &Value, left: u8) -> Result<Group, WireError>
-    ensures { IfOk result (λ g. IsNodeOf reader.marks (AreNodes reader.marks left) (codes "group") (view value.now) (view_group g)) }
+    ensures { IfOk result (λ g. IsNodeOf reader.marks (AreNodes reader.marks left) (codes "group")
+        (view value.now) (view_group g)) }
 {
     let form = Form::of(reader, value, &[&GROUP, &FORMATTING, &AFFIXES])?;
     let formatting = formatting(form)?;
@@ -68,7 +69,8 @@ static CHILDREN: [&str; 4] = ["name", "et-al", "label", "substitute"];
 #[cycle(node)]
 #[tactic(auto, using(crate::proofs::NodesRead::substitute_child, crate::proofs::NodesRead::name_child, crate::proofs::NodesRead::label_child))]
 fn child(reader: Reader, value: &Value, left: u8) -> Result<NamesChild, WireError>
-    ensures { IfOk result (λ c. IsChild reader.marks (AreNodes reader.marks left) (view value.now) (view_child c)) }
+    ensures { IfOk result (λ c. IsChild reader.marks (AreNodes reader.marks left) (view value.now)
+        (view_child c)) }
 {
     let (kind, inside) = element_of(reader, value)?;
     match kind {
@@ -95,8 +97,8 @@ fn child(reader: Reader, value: &Value, left: u8) -> Result<NamesChild, WireErro
 #[cycle(node)]
 #[tactic(auto, using(crate::proofs::Lists::zip_more_made))]
 fn children(reader: Reader, items: &[Value], left: u8) -> Result<Vec<NamesChild>, WireError>
-    ensures { IfOk result (λ cs. AllZip (IsChild reader.marks (AreNodes reader.marks left)) (map view items.now)
-        (map view_child cs.items)) }
+    ensures { IfOk result (λ cs. AllZip (IsChild reader.marks (AreNodes reader.marks left))
+        (map view items.now) (map view_child cs.items)) }
 {
     let mut children = Vec::with_capacity(reader.alloc, items.len())?;
     for (place, item) in items.iter().enumerate() {
@@ -119,7 +121,8 @@ static NAMES: [&str; 6] = [
 #[cycle(node)]
 #[tactic(auto, using(crate::proofs::NodesRead::names_read))]
 fn names(reader: Reader, value: &Value, left: u8) -> Result<Names, WireError>
-    ensures { IfOk result (λ n. IsNodeOf reader.marks (AreNodes reader.marks left) (codes "names") (view value.now) (view_names n)) }
+    ensures { IfOk result (λ n. IsNodeOf reader.marks (AreNodes reader.marks left) (codes "names")
+        (view value.now) (view_names n)) }
 {
     let form = Form::of(
         reader,
@@ -163,7 +166,8 @@ static BRANCH: [&str; 9] = [
 /// A branch of a choice.
 #[cycle(node)]
 fn branch(reader: Reader, value: &Value, left: u8) -> Result<ChooseBranch, WireError>
-    ensures { IfOk result (λ b. IsBranch (AreNodes reader.marks left) (view value.now) (view_branch b)) }
+    ensures { IfOk result (λ b. IsBranch (AreNodes reader.marks left) (view value.now)
+        (view_branch b)) }
 {
     let form = Form::of(reader, value, &[&BRANCH])?;
     let disambiguate = form.boolean("disambiguate")?;
@@ -210,8 +214,8 @@ fn nodes_if(
     name: &'static str,
     left: u8,
 ) -> Result<Option<Vec<LayoutRenderingElement>>, WireError>
-    ensures { IfOk result (λ o. AreNodesIf (AreNodes form.entry.reader.marks left) name.now (view form.entry.value.now)
-        (option_map (λ ns. view_nodes ns.items) o)) }
+    ensures { IfOk result (λ o. AreNodesIf (AreNodes form.entry.reader.marks left) name.now
+        (view form.entry.value.now) (option_map (λ ns. view_nodes ns.items) o)) }
 {
     match form.member(name) {
         Some(value) => {
@@ -229,7 +233,8 @@ static CHOOSE: [&str; 3] = ["if", "else-if", "else"];
 /// A choice.
 #[cycle(node)]
 fn choose(reader: Reader, value: &Value, left: u8) -> Result<Choose, WireError>
-    ensures { IfOk result (λ c. IsNodeOf reader.marks (AreNodes reader.marks left) (codes "choose") (view value.now) (view_choose c)) }
+    ensures { IfOk result (λ c. IsNodeOf reader.marks (AreNodes reader.marks left) (codes "choose")
+        (view value.now) (view_choose c)) }
 {
     let form = Form::of(reader, value, &[&CHOOSE])?;
     let Some(first) = form.member("if") else {
@@ -255,7 +260,8 @@ static ELEMENTS: [&str; 7] = [
 #[cycle(node)]
 #[tactic(auto, using(crate::proofs::NodesRead::group_node, crate::proofs::NodesRead::names_node, crate::proofs::NodesRead::choose_node))]
 fn node(reader: Reader, value: &Value, left: u8) -> Result<LayoutRenderingElement, WireError>
-    ensures { IfOk result (λ n. IsNode reader.marks (AreNodes reader.marks left) (view value.now) (view_node n)) }
+    ensures { IfOk result (λ n. IsNode reader.marks (AreNodes reader.marks left) (view value.now)
+        (view_node n)) }
 {
     let (kind, inside) = element_of(reader, value)?;
     match kind {
@@ -284,7 +290,8 @@ fn nodes(
     items: &[Value],
     left: u8,
 ) -> Result<Vec<LayoutRenderingElement>, WireError>
-    ensures { IfOk result (λ ns. AreNodes reader.marks left (map view items.now) (map view_node ns.items)) }
+    ensures { IfOk result (λ ns. AreNodes reader.marks left (map view items.now)
+        (map view_node ns.items)) }
 {
     let lower = below(reader, left)?;
     let mut nodes = Vec::with_capacity(reader.alloc, items.len())?;
@@ -312,7 +319,8 @@ pub fn nodes_of(
     value: &Value,
     limits: Limits,
 ) -> Result<Vec<LayoutRenderingElement>, WireError>
-    ensures { IfOk result (λ ns. IsListOf (AreNodes false 43) (view value.now) (view_nodes ns.items)) }
+    ensures { IfOk result (λ ns. IsListOf (AreNodes false 43) (view value.now)
+        (view_nodes ns.items)) }
 {
     let reader = Reader {
         alloc,

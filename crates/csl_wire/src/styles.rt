@@ -39,7 +39,8 @@ fn macro_of(reader: Reader, value: &Value) -> Result<CslMacro, WireError>
 /// The macros of a list.
 #[tactic(auto, using(crate::proofs::Lists::zip_more_made))]
 fn macros(reader: Reader, items: &[Value]) -> Result<Vec<CslMacro>, WireError>
-    ensures { IfOk result (λ ms. AllZip (IsMacro reader.marks) (map view items.now) (definitions ms.items)) }
+    ensures { IfOk result (λ ms. AllZip (IsMacro reader.marks) (map view items.now)
+        (definitions ms.items)) }
 {
     let mut macros = Vec::with_capacity(reader.alloc, items.len())?;
     for (place, item) in items.iter().enumerate() {
@@ -60,7 +61,8 @@ static LAYOUT: [&str; 4] = ["delimiter", "name-form", "name-delimiter", "childre
 
 /// A layout.
 fn with_options(reader: Reader, value: &Value) -> Result<WithOptions, WireError>
-    ensures layout { IfOk result (λ w. IsLayout reader.marks (view value.now) (view_layout w.layout)) }
+    ensures layout { IfOk result (λ w. IsLayout reader.marks (view value.now)
+        (view_layout w.layout)) }
     ensures options { IfOk result (λ w. AreLayoutOptions (view value.now)
         (partial_options w.options)) }
 {
@@ -80,7 +82,8 @@ fn with_options(reader: Reader, value: &Value) -> Result<WithOptions, WireError>
 /// The citation. One that is absent is empty.
 fn citation_of(form: Form<'_>) -> Result<WithOptions, WireError>
     ensures { IfOk result (λ w. IsCitation form.entry.reader.marks
-        (member (codes "citation") (view form.entry.value.now)) (view_layout w.layout) (partial_options w.options)) }
+        (member (codes "citation") (view form.entry.value.now)) (view_layout w.layout)
+        (partial_options w.options)) }
 {
     match form.member("citation") {
         Some(value) => within(Step::Member("citation"), with_options(form.reader, value)),
@@ -206,8 +209,8 @@ struct StyleParts {
 /// The parts of a style.
 #[tactic(auto, using(crate::proofs::StylesRead::style_read))]
 fn parts_of(reader: Reader, value: &Value) -> Result<StyleParts, WireError>
-    ensures { IfOk result (λ p. IsStyle reader.marks (view value.now) p.settings p.macros.items p.citation
-        p.bibliography) }
+    ensures { IfOk result (λ p. IsStyle reader.marks (view value.now) p.settings p.macros.items
+        p.citation p.bibliography) }
 {
     let form = Form::of(reader, value, &[&STYLE, &NAME_OPTIONS])?;
     let items = form.items("macros")?;
