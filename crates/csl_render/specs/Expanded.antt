@@ -4,17 +4,11 @@ use denote.Bor.{Bor}
 use Rattle.csl_elements.specs.declared.element.LayoutRenderingElement.{LayoutRenderingElement}
 use Rattle.csl_elements.specs.declared.element.Names.{Names}
 use Rattle.csl_elements.specs.declared.text.Text.{Text}
-use Rattle.csl_elements.specs.Node.{Node, Nodes, ExpandedNode, expanded_macro, ExpandedNodes, ExpandedSubstitutes, expand, expand_nodes}
+use Rattle.csl_elements.specs.Node.{Nodes, ExpandedNode, expanded_macro, ExpandedNodes, ExpandedSubstitutes}
 use Rattle.csl_elements.specs.View.{view_nodes, text_dressing}
-use Rattle.csl_style.specs.Expanded.{macro_env}
+use Rattle.csl_style.specs.Expanded.{macro_env, expanded_nodes}
 use Rattle.csl_style.specs.Style.{StyleParts}
 use Rattle.csl_render.specs.Names.{expanded_substitutes_of}
-
-abbrev pub expanded : StyleParts → Node → ExpandedNode
-expanded style n = expand (macro_env style) n
-
-abbrev pub expanded_nodes : StyleParts → Nodes → ExpandedNodes
-expanded_nodes style ns = expand_nodes (macro_env style) ns
 
 -- the nodes that a choice or a substitute takes, if any
 abbrev pub expanded_taken : StyleParts → Option (Bor (List LayoutRenderingElement)) → Option ExpandedNodes

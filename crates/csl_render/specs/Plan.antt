@@ -21,6 +21,7 @@ use Rattle.csl_elements.specs.Node as node
 use Rattle.csl_elements.specs.Node.{Tests, Node, Nodes, Branches, no_branches, otherwise, branch, ExpandedNode, expanded_text, expanded_macro, unknown_macro, expanded_number, expanded_label, expanded_date, expanded_names, shorthand, expanded_choose, expanded_group, ExpandedNodes, no_expanded_nodes, expanded_node, ExpandedBranches, no_expanded_branches, expanded_otherwise, expanded_branch, ExpandedSubstitutes, no_expanded_substitutes, expanded_substitute}
 use Rattle.csl_elements.specs.VariableSet.{has, Has}
 use Rattle.csl_elements.specs.View.{view_branch}
+use Rattle.csl_style.specs.Expanded.{expanded, expanded_nodes}
 use Rattle.csl_entry.specs.declared.citation.cite.SpecialForm.{SpecialForm}
 use Rattle.csl_entry.specs.declared.citation.cite.SpecialForm.TheVariants.{VarOnly, OnlyFirstDate, OnlyYearSuffix, SuppressAuthor}
 use Rattle.csl_entry.specs.Alike.{Each}
@@ -37,7 +38,7 @@ use Rattle.csl_render.specs.declared.plan.NodeInfo.{NodeInfo}
 use Rattle.csl_render.specs.declared.plan.NodePlan.{NodePlan}
 use Rattle.csl_render.specs.declared.plan.PlanItem.{PlanItem}
 use Rattle.csl_render.specs.Flags.{info_of_flags}
-use Rattle.csl_render.specs.Expanded.{expanded, expanded_nodes, expanded_substitutes}
+use Rattle.csl_render.specs.Expanded.{expanded_substitutes}
 use Rattle.csl_render.specs.Names.{author}
 use Rattle.csl_render.specs.Tree.{info, nodes_info, substitute_info, shows, any_shows, substitute_shows}
 

@@ -7,14 +7,13 @@ use Rattle.csl_elements.specs.Node.{Node, ExpandedNode, ExpandedLayout}
 use Rattle.csl_elements.specs.Node as node
 use Rattle.csl_style.specs.Style.{StyleParts}
 use Rattle.csl_elements.specs.View as view
-use Rattle.csl_style.specs.Expanded.{macro_env}
+use Rattle.csl_style.specs.Expanded.{macro_env, expanded}
 use Rattle.csl_entry.specs.Answers.{Answers}
 use Rattle.csl_context.specs.State.{State, Inherited}
 use Rattle.csl_context.specs.RenderInput.{RenderInput}
 use Rattle.csl_context.specs.Context.{ContextView, render_input}
 use Rattle.csl_nodes.specs.Usage.{Info, without_group_flag}
 use Rattle.csl_nodes.specs.Text.{RenderOutput, with_output}
-use Rattle.csl_render.specs.Expanded.{expanded}
 use Rattle.csl_render.specs.Tree.{info, nodes_info, shows, any_shows, node_output, delimited_child_output, layout_output}
 
 -- a layout, or a node of one

@@ -9,10 +9,11 @@ ghost use Rattle.csl_elements.specs.Node.{expand, expand_nodes, size, sizes};
 ghost use Rattle.csl_elements.specs.View.{view_nodes, view_branch, view_choose};
 ghost use Rattle.csl_context.specs.Context.{Reads, GivesBy, FailsSilently, render_input};
 ghost use Rattle.csl_nodes.specs.Condition as spec;
-ghost use Rattle.csl_render.specs.Expanded.{expanded, expanded_nodes, expanded_taken};
+ghost use Rattle.csl_render.specs.Expanded.{expanded_taken};
 ghost use Rattle.csl_render.specs.Names.{Macros};
 ghost use Rattle.csl_render.specs.Plan.{HasTested, HasAllTested, HasPlansOf, IsPlanOf, TakesBranch, nodes_of_branch};
 ghost use Rattle.csl_elements.specs.VariableSet.{Has, IsWithin};
+ghost use Rattle.csl_style.specs.Expanded.{expanded, expanded_nodes};
 ghost use Rattle.csl_render.specs.Tree.{shows, node_output, choice_shows, choice_output};
 
 use crate::dry_run::DryRun;

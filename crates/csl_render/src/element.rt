@@ -4,9 +4,9 @@
 ghost use Rattle.std.specs.Prelude.{◌≡◌, true, IfOk, IfSome};
 ghost use Rattle.csl_elements.specs.Node.{expand};
 ghost use Rattle.csl_elements.specs.View.{view_node, view_nodes, view_rendering};
+ghost use Rattle.csl_style.specs.Expanded.{expanded, expanded_nodes};
 ghost use Rattle.csl_context.specs.Context.{Runs, Gives, render_input};
 ghost use Rattle.csl_render.specs.DryRun.{Adds, dry_of};
-ghost use Rattle.csl_render.specs.Expanded.{expanded, expanded_nodes};
 ghost use Rattle.csl_render.specs.Names.{Macros};
 ghost use Rattle.csl_render.specs.Plan.{IsInfoOfNodes, IsInfoOfTried, IsDryRunOf, IsPlanOf, HasPlansOf};
 ghost use Rattle.csl_render.specs.Tree as spec;

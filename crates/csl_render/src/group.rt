@@ -4,9 +4,9 @@
 ghost use Rattle.std.specs.Prelude.{None, IfOk};
 ghost use Rattle.csl_tree.specs.Content.{elem_content};
 ghost use Rattle.csl_elements.specs.View.{view_group};
+ghost use Rattle.csl_style.specs.Expanded.{expanded};
 ghost use Rattle.csl_context.specs.Context.{Runs, IsInnermost, close_part_by};
 ghost use Rattle.csl_nodes.specs.Text.{Appends};
-ghost use Rattle.csl_render.specs.Expanded.{expanded};
 ghost use Rattle.csl_render.specs.Plan.{IsDryRunOf, IsPlanOf};
 ghost use Rattle.csl_render.specs.Tree.{node_output, shown_if};
 

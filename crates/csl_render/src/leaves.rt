@@ -7,8 +7,8 @@ ghost use Rattle.csl_elements.specs.declared.taxonomy.Variable.TheVariants as va
 ghost use Rattle.csl_elements.specs.Names.{view_label};
 ghost use Rattle.csl_elements.specs.Node.{date, label, number};
 ghost use Rattle.csl_elements.specs.View.{view_date, view_number};
-ghost use Rattle.csl_render.specs.Expanded.{expanded};
 ghost use Rattle.csl_elements.specs.VariableSet.{Has};
+ghost use Rattle.csl_style.specs.Expanded.{expanded};
 
 use crate::dry_run::DryRun;
 use crate::node::Node;

@@ -4,11 +4,12 @@
 ghost use Rattle.std.specs.Prelude.{◌≡◌, true, IfOk, option_map};
 ghost use Rattle.csl_elements.specs.NamesParts.{names_node, names_substitutes, first_substitute};
 ghost use Rattle.csl_elements.specs.View.{view_nodes, view_names};
+ghost use Rattle.csl_style.specs.Expanded.{expanded};
 ghost use Rattle.csl_context.specs.Context.{Gives, render_input};
 ghost use Rattle.csl_names.specs.NamesForms.{writes_no_name};
 ghost use Rattle.csl_names.specs.NamesLists.{all_empty, peeked_lists};
 ghost use Rattle.csl_render.specs.DryRun.{Adds, dry_of};
-ghost use Rattle.csl_render.specs.Expanded.{expanded, expanded_substitutes};
+ghost use Rattle.csl_render.specs.Expanded.{expanded_substitutes};
 ghost use Rattle.csl_render.specs.Names as spec;
 ghost use Rattle.csl_nodes.specs.Usage.{info_view, no_info};
 ghost use Rattle.csl_render.specs.Plan.{IsInfoOfSubstitutes};

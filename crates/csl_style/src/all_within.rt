@@ -2,10 +2,10 @@
 //! sort key may call any of them (CSL 1.0.2, Macro; Sorting).
 
 ghost use Rattle.std.specs.Prelude.{◌≡◌, ℕ, ◌<◌, length, IfOk, IfSome, IfNone, IsTrue, IsFalse};
-ghost use Rattle.csl_elements.specs.Node.{LayoutNode, expand_nodes};
+ghost use Rattle.csl_elements.specs.Node.{LayoutNode};
 ghost use Rattle.csl_elements.specs.View.{definitions, view_nodes};
 ghost use Rattle.csl_style.specs.CallGraph.{children_at};
-ghost use Rattle.csl_style.specs.Expanded.{macro_env};
+ghost use Rattle.csl_style.specs.Expanded.{expanded_nodes};
 ghost use Rattle.csl_style.specs.AllWithin.{AreKnownSizes, IsKnownSize, AreNodesWithin, IsLayoutWithin, IsAllWithin, IsOneCall, IsOneVariable};
 
 use crate::depth::depth_of_all;
@@ -28,11 +28,11 @@ fn size_of_nodes(
 ) -> Option<MacroSize>
     requires known { AreKnownSizes style.now known.now }
     ensures known { IfSome result (IsKnownSize style.now
-        (expand_nodes (macro_env style.now) (view_nodes nodes.now))) }
+        (expanded_nodes style.now (view_nodes nodes.now))) }
     ensures within { IfSome result (λ _. AreNodesWithin style.now rendered size depth
-        (expand_nodes (macro_env style.now) (view_nodes nodes.now))) }
+        (expanded_nodes style.now (view_nodes nodes.now))) }
     ensures above { IfNone result (¬ AreNodesWithin style.now rendered size depth
-        (expand_nodes (macro_env style.now) (view_nodes nodes.now))) }
+        (expanded_nodes style.now (view_nodes nodes.now))) }
 {
     let rendered = rendered.checked_sub(3)?;
     let size = size.checked_sub(3)?;
@@ -52,7 +52,7 @@ fn size_of_nodes(
 fn keep(style: &Style, known: &mut Vec<Option<MacroSize>>, at: usize, found: MacroSize)
     requires within { at < length known.old.items }
     requires known { AreKnownSizes style.now known.old.items }
-    requires size { IsKnownSize style.now (expand_nodes (macro_env style.now)
+    requires size { IsKnownSize style.now (expanded_nodes style.now
         (children_at (definitions style.now.macros) at)) found }
     ensures known { AreKnownSizes style.now known.new.items }
     ensures len { length known.new.items ≡ length known.old.items }
@@ -102,7 +102,7 @@ fn are_macros_within(
     requires known { AreKnownSizes style.now known.now }
     ensures within { IsTrue result → (i : ℕ) → i < length style.now.macros
         → AreNodesWithin style.now rendered size depth
-        (expand_nodes (macro_env style.now) (children_at (definitions style.now.macros) i)) }
+        (expanded_nodes style.now (children_at (definitions style.now.macros) i)) }
     ensures above { IsFalse result → ¬ IsAllWithin style.now rendered size depth }
 {
     let macros = style.macros();

@@ -1,9 +1,9 @@
 //! The depth of a layout with all macros expanded (CSL 1.0.2, Macro).
 
 ghost use Rattle.std.specs.Prelude.{◌≡◌, ◌<◌, ◌≤◌, max, IfSome, IfNone};
-ghost use Rattle.csl_elements.specs.Node.{expand, expand_nodes, expand_layout};
+ghost use Rattle.csl_elements.specs.Node.{expand_layout};
 ghost use Rattle.csl_elements.specs.View.{view_node, view_nodes, view_names, view_child, view_choose, view_layout};
-ghost use Rattle.csl_style.specs.Expanded.{macro_env};
+ghost use Rattle.csl_style.specs.Expanded.{macro_env, expanded, expanded_nodes};
 ghost use Rattle.csl_style.specs.Depth.{node_depth, nodes_depth, child_depth, layout_depth};
 ghost use Rattle.csl_style.specs.AllWithin.{AreKnownSizes};
 
@@ -39,9 +39,9 @@ fn depth(
 ) -> Option<usize>
     requires known { AreKnownSizes style.now known.now }
     ensures some { IfSome result (λ depth. (depth
-        ≡ node_depth (expand (macro_env style.now) (view_node element.now))) × (depth ≤ most)) }
+        ≡ node_depth (expanded style.now (view_node element.now))) × (depth ≤ most)) }
     ensures none { IfNone result (most < node_depth
-        (expand (macro_env style.now) (view_node element.now))) }
+        (expanded style.now (view_node element.now))) }
 {
     if let Some(call) = known_call::<false>(style, known, element) {
         return depth_of_call(call, most);
@@ -78,10 +78,10 @@ pub(crate) fn depth_of_all(
 ) -> Option<usize>
     requires known { AreKnownSizes style.now known.now }
     ensures some { IfSome result (λ depth. (depth
-        ≡ nodes_depth (expand_nodes (macro_env style.now) (view_nodes elements.now)))
+        ≡ nodes_depth (expanded_nodes style.now (view_nodes elements.now)))
         × (depth ≤ most)) }
     ensures none { IfNone result (most < nodes_depth
-        (expand_nodes (macro_env style.now) (view_nodes elements.now))) }
+        (expanded_nodes style.now (view_nodes elements.now))) }
 {
     let mut deepest = 0;
     for element in elements {
@@ -100,9 +100,9 @@ fn depth_of_names(
 ) -> Option<usize>
     requires known { AreKnownSizes style.now known.now }
     ensures some { IfSome result (λ depth. (depth
-        ≡ node_depth (expand (macro_env style.now) (view_names names.now))) × (depth ≤ most)) }
+        ≡ node_depth (expanded style.now (view_names names.now))) × (depth ≤ most)) }
     ensures none { IfNone result (most < node_depth
-        (expand (macro_env style.now) (view_names names.now))) }
+        (expanded style.now (view_names names.now))) }
 {
     let inside = most.checked_sub(1)?;
     let mut deepest = 0;
@@ -147,9 +147,9 @@ fn depth_of_choose(
 ) -> Option<usize>
     requires known { AreKnownSizes style.now known.now }
     ensures some { IfSome result (λ depth. (depth
-        ≡ node_depth (expand (macro_env style.now) (view_choose choose.now))) × (depth ≤ most)) }
+        ≡ node_depth (expanded style.now (view_choose choose.now))) × (depth ≤ most)) }
     ensures none { IfNone result (most < node_depth
-        (expand (macro_env style.now) (view_choose choose.now))) }
+        (expanded style.now (view_choose choose.now))) }
 {
     let inside = most.checked_sub(1)?;
     let mut deepest = depth_of_all(style, known, &choose.if_.children, inside)?;

@@ -5,12 +5,12 @@ ghost use Rattle.std.specs.Prelude.{◌≡◌, [], ◌∷◌, map, Some, IfOk, I
 ghost use Rattle.std.specs.Option.{option_or};
 ghost use Rattle.csl_elements.specs.Names.{NamesNode, first_name, view_label};
 ghost use Rattle.csl_elements.specs.NamesParts.{names_node, parts_node};
-ghost use Rattle.csl_elements.specs.Node.{ExpandedNode, as_substitute_child, expand, expand_nodes, expand_substitute_nodes};
+ghost use Rattle.csl_elements.specs.Node.{ExpandedNode, as_substitute_child, expand_substitute_nodes};
 ghost use Rattle.csl_elements.specs.View.{view_node, view_nodes, view_names, view_child, view_choose, view_date, view_date_part, view_text};
 ghost use Rattle.csl_elements.specs.declared.term.OtherTerm.TheVariants as others;
 ghost use Rattle.csl_elements.specs.declared.term.Term.TheVariants as terms;
 ghost use Rattle.csl_elements.specs.declared.term.TermForm.TheVariants as forms;
-ghost use Rattle.csl_style.specs.Expanded.{macro_env};
+ghost use Rattle.csl_style.specs.Expanded.{macro_env, expanded, expanded_nodes};
 ghost use Rattle.csl_style.specs.FoundTerms.{Finds};
 ghost use Rattle.csl_style.specs.MissingTerm as spec;
 
@@ -359,7 +359,7 @@ fn visit<'s>(
     around: TermScope,
 )
     ensures { Finds style.now.locales (spec.asked_in_node style.now.locales around
-        (expand (macro_env style.now) (view_node element.now))) found.old found.new }
+        (expanded style.now (view_node element.now))) found.old found.new }
 {
     match element {
         LayoutRenderingElement::Text(text) => visit_text(found, style, text, around),
@@ -383,7 +383,7 @@ fn visit_all<'s>(
     around: TermScope,
 )
     ensures { Finds style.now.locales (spec.asked_in_nodes style.now.locales around
-        (expand_nodes (macro_env style.now) (view_nodes elements.now))) found.old found.new }
+        (expanded_nodes style.now (view_nodes elements.now))) found.old found.new }
 {
     for element in elements {
         visit(found, style, element, around);
@@ -394,7 +394,7 @@ fn visit_all<'s>(
 #[cycle(terms)]
 fn visit_text<'s>(found: &mut Found, style: &'s Style, text: &'s Text, around: TermScope)
     ensures { Finds style.now.locales (spec.asked_in_node style.now.locales around
-        (expand (macro_env style.now) (view_text text.now))) found.old found.new }
+        (expanded style.now (view_text text.now))) found.old found.new }
 {
     match &text.target {
         TextTarget::Variable { .. } | TextTarget::Value { .. } => {
@@ -422,7 +422,7 @@ fn visit_text<'s>(found: &mut Found, style: &'s Style, text: &'s Text, around: T
 #[cycle(terms)]
 fn visit_names<'s>(found: &mut Found, style: &'s Style, names: &'s Names, around: TermScope)
     ensures { Finds style.now.locales (spec.asked_in_node style.now.locales around
-        (expand (macro_env style.now) (view_names names.now))) found.old found.new }
+        (expanded style.now (view_names names.now))) found.old found.new }
 {
     let parts = names.parts();
     ask_names(found, style, parts, around.writes_and);
@@ -482,7 +482,7 @@ fn visit_place<'s>(
 )
     ensures { Finds style.now.locales (spec.asked_in_node style.now.locales around
         (as_substitute_child (parts_node original.entry) (view_node element.now)
-        (expand (macro_env style.now) (view_node element.now)))) found.old found.new }
+        (expanded style.now (view_node element.now)))) found.old found.new }
 {
     match element.childless_names() {
         Some(names) => {
@@ -497,7 +497,7 @@ fn visit_place<'s>(
 #[cycle(terms)]
 fn visit_choose<'s>(found: &mut Found, style: &'s Style, choose: &'s Choose, around: TermScope)
     ensures { Finds style.now.locales (spec.asked_in_node style.now.locales around
-        (expand (macro_env style.now) (view_choose choose.now))) found.old found.new }
+        (expanded style.now (view_choose choose.now))) found.old found.new }
 {
     visit_all(found, style, &choose.if_.children, around);
     for branch in &choose.else_if {

@@ -3,9 +3,9 @@
 
 ghost use Prim.Native.Nat.{min};
 ghost use Rattle.std.specs.Prelude.{◌≡◌, true, false, [], ◌+◌, ◌<◌, ◌≤◌, ◌⊎◌, length, option_map, IfSome, IfNone, IsTrue, IsFalse, if◌then◌else◌};
-ghost use Rattle.csl_elements.specs.Node.{expand, expand_nodes, expand_layout};
+ghost use Rattle.csl_elements.specs.Node.{expand_layout};
 ghost use Rattle.csl_elements.specs.View.{view_node, view_nodes, view_names, view_child, view_branch, view_choose, view_layout};
-ghost use Rattle.csl_style.specs.Expanded.{macro_env};
+ghost use Rattle.csl_style.specs.Expanded.{macro_env, expanded, expanded_nodes};
 ghost use Rattle.csl_style.specs.Depth.{node_depth, nodes_depth, child_depth, layout_depth};
 ghost use Rattle.csl_style.specs.Size.{counted, list_weight, localized_parts, tests_weight, weight, weights, child_weight, layout_size, rendered_size};
 ghost use Rattle.csl_style.specs.AllWithin.{AreKnownSizes, IsLayoutWithin};
@@ -97,11 +97,11 @@ fn known_macro(
 ) -> Option<MacroSize>
     requires known { AreKnownSizes style.now known.now }
     ensures all { IfSome result (λ found. weight false []
-        (expand (macro_env style.now) (view_node element.now)) ≡ found.all + 1) }
+        (expanded style.now (view_node element.now)) ≡ found.all + 1) }
     ensures rendered { IfSome result (λ found. weight true style.now.locales
-        (expand (macro_env style.now) (view_node element.now)) ≡ found.rendered + 1) }
+        (expanded style.now (view_node element.now)) ≡ found.rendered + 1) }
     ensures depth { IfSome result (λ found. node_depth
-        (expand (macro_env style.now) (view_node element.now)) ≡ found.depth + 1) }
+        (expanded style.now (view_node element.now)) ≡ found.depth + 1) }
 {
     let name = called_name(element)?;
     let i = style.macro_index(name)?;
@@ -116,9 +116,9 @@ pub(crate) fn known_call<const ONCE: bool>(
 ) -> Option<CallSize>
     requires known { AreKnownSizes style.now known.now }
     ensures size { IfSome result (λ call. weight ONCE (counted ONCE style.now.locales)
-        (expand (macro_env style.now) (view_node element.now)) ≡ call.size) }
+        (expanded style.now (view_node element.now)) ≡ call.size) }
     ensures depth { IfSome result (λ call. node_depth
-        (expand (macro_env style.now) (view_node element.now)) ≡ call.depth) }
+        (expanded style.now (view_node element.now)) ≡ call.depth) }
 {
     let found = known_macro(style, known, element)?;
     let depth = found.depth.checked_add(1)?;
@@ -150,11 +150,11 @@ fn room_left_by<const ONCE: bool>(
 ) -> Option<u64>
     requires known { AreKnownSizes style.now known.now }
     ensures some { IfSome result (λ left. (left + weight ONCE (counted ONCE style.now.locales)
-        (expand (macro_env style.now) (view_node element.now)) ≡ room)
-        × (node_depth (expand (macro_env style.now) (view_node element.now)) ≤ most)) }
+        (expanded style.now (view_node element.now)) ≡ room)
+        × (node_depth (expanded style.now (view_node element.now)) ≤ most)) }
     ensures none { IfNone result ((room < weight ONCE (counted ONCE style.now.locales)
-        (expand (macro_env style.now) (view_node element.now)))
-        ⊎ (most < node_depth (expand (macro_env style.now) (view_node element.now)))) }
+        (expanded style.now (view_node element.now)))
+        ⊎ (most < node_depth (expanded style.now (view_node element.now)))) }
 {
     if let Some(call) = known_call::<ONCE>(style, known, element) {
         return room_left_by_call(call, room, most);
@@ -204,11 +204,11 @@ pub(crate) fn room_left_by_all<const ONCE: bool>(
     requires known { AreKnownSizes style.now known.now }
     ensures some { IfSome result (λ left. (left
         + weights ONCE (counted ONCE style.now.locales)
-        (expand_nodes (macro_env style.now) (view_nodes elements.now)) ≡ room)
-        × (nodes_depth (expand_nodes (macro_env style.now) (view_nodes elements.now)) ≤ most)) }
+        (expanded_nodes style.now (view_nodes elements.now)) ≡ room)
+        × (nodes_depth (expanded_nodes style.now (view_nodes elements.now)) ≤ most)) }
     ensures none { IfNone result ((room < weights ONCE (counted ONCE style.now.locales)
-        (expand_nodes (macro_env style.now) (view_nodes elements.now)))
-        ⊎ (most < nodes_depth (expand_nodes (macro_env style.now) (view_nodes elements.now)))) }
+        (expanded_nodes style.now (view_nodes elements.now)))
+        ⊎ (most < nodes_depth (expanded_nodes style.now (view_nodes elements.now)))) }
 {
     let mut left = room;
     for element in elements {
@@ -229,11 +229,11 @@ fn room_left_by_names<const ONCE: bool>(
     requires known { AreKnownSizes style.now known.now }
     ensures some { IfSome result (λ left. (left
         + weight ONCE (counted ONCE style.now.locales)
-        (expand (macro_env style.now) (view_names names.now)) ≡ room)
-        × (node_depth (expand (macro_env style.now) (view_names names.now)) ≤ most)) }
+        (expanded style.now (view_names names.now)) ≡ room)
+        × (node_depth (expanded style.now (view_names names.now)) ≤ most)) }
     ensures none { IfNone result ((room < weight ONCE (counted ONCE style.now.locales)
-        (expand (macro_env style.now) (view_names names.now)))
-        ⊎ (most < node_depth (expand (macro_env style.now) (view_names names.now)))) }
+        (expanded style.now (view_names names.now)))
+        ⊎ (most < node_depth (expanded style.now (view_names names.now)))) }
 {
     let inside = most.checked_sub(1)?;
     let mut left = room
@@ -293,11 +293,11 @@ fn room_left_by_choose<const ONCE: bool>(
     requires known { AreKnownSizes style.now known.now }
     ensures some { IfSome result (λ left. (left
         + weight ONCE (counted ONCE style.now.locales)
-        (expand (macro_env style.now) (view_choose choose.now)) ≡ room)
-        × (node_depth (expand (macro_env style.now) (view_choose choose.now)) ≤ most)) }
+        (expanded style.now (view_choose choose.now)) ≡ room)
+        × (node_depth (expanded style.now (view_choose choose.now)) ≤ most)) }
     ensures none { IfNone result ((room < weight ONCE (counted ONCE style.now.locales)
-        (expand (macro_env style.now) (view_choose choose.now)))
-        ⊎ (most < node_depth (expand (macro_env style.now) (view_choose choose.now)))) }
+        (expanded style.now (view_choose choose.now)))
+        ⊎ (most < node_depth (expanded style.now (view_choose choose.now)))) }
 {
     let inside = most.checked_sub(1)?;
     let left = room_left_by_tests(&choose.if_, room.checked_sub(1)?.checked_sub(1)?)?;

@@ -6,7 +6,7 @@ ghost use Rattle.csl_elements.specs.Node.{expand_nodes};
 ghost use Rattle.csl_elements.specs.View.{definitions, is_named, view_nodes};
 ghost use Rattle.csl_style.specs.Expansion.{macro_body, macro_expansion, macro_index, IsAcyclic};
 ghost use Rattle.csl_style.specs.CallGraph.{ArePlacesByName, children_at};
-ghost use Rattle.csl_style.specs.Expanded.{macro_env};
+ghost use Rattle.csl_style.specs.Expanded.{macro_env, expanded_nodes};
 ghost use Rattle.csl_style.specs.AllWithin.{NameMeans};
 ghost use Rattle.csl_style.specs.Style.{HasNoCycle, style_of, layout_of, is_chicago, IsRefusal};
 ghost use Rattle.csl_elements.specs.Locale.{terms_of, ordinals_of};
@@ -271,7 +271,7 @@ impl Style {
         ensures index { result ≡ macro_index name.now (definitions self.now.macros) }
         ensures within { IfSome result (λ i. i < length self.now.macros) }
         ensures meaning { IfSome result (λ i. macro_env self.now name.now
-            ≡ Some (expand_nodes (macro_env self.now)
+            ≡ Some (expanded_nodes self.now
             (children_at (definitions self.now.macros) i))) }
     {
         self.places.get(name)

@@ -2,10 +2,10 @@ use Rattle.std.proofs.Common.{sym, ap, subst, ◌∙◌}
 use Rattle.std.specs.Prelude.{not}
 use Rattle.csl_elements.specs.Node.{date}
 use Rattle.csl_elements.specs.View.{view_date}
+use Rattle.csl_style.specs.Expanded.{expanded}
 use Rattle.csl_context.specs.Context.{render_input}
 use Rattle.csl_nodes.specs.Date.{date_info}
 use Rattle.csl_render.specs.DryRun.{dry_of}
-use Rattle.csl_render.specs.Expanded.{expanded}
 use Rattle.csl_render.specs.Plan.{AreAlikeOn}
 use Rattle.csl_render.proofs.NoAuthor.{no_date_shows}
 use Rattle.csl_render.proofs.Plans.{leaf}

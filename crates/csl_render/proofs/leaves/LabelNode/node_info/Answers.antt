@@ -4,8 +4,8 @@ use Rattle.csl_elements.specs.Node.{label}
 use Rattle.csl_elements.specs.Taxonomy.{variable_of}
 use Rattle.csl_context.specs.Context.{render_input}
 use Rattle.csl_nodes.specs.Label.{label_info}
-use Rattle.csl_render.specs.Expanded.{expanded}
 use Rattle.csl_elements.specs.VariableSet.{Has}
+use Rattle.csl_style.specs.Expanded.{expanded}
 use Rattle.csl_render.proofs.Plans.{leaf}
 use Rattle.csl_render.proofs.Reading.{label_info_same}
 use Rattle.csl_render.proofs.VariableSets.{has_more}

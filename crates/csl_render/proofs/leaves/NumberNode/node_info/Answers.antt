@@ -4,8 +4,8 @@ use Rattle.csl_elements.specs.View.{view_number}
 use Rattle.csl_elements.specs.Taxonomy.{variable_of}
 use Rattle.csl_context.specs.Context.{render_input}
 use Rattle.csl_nodes.specs.Number.{number_info}
-use Rattle.csl_render.specs.Expanded.{expanded}
 use Rattle.csl_elements.specs.VariableSet.{Has}
+use Rattle.csl_style.specs.Expanded.{expanded}
 use Rattle.csl_render.proofs.NoAuthor.{no_number_shows}
 use Rattle.csl_render.proofs.Plans.{leaf}
 use Rattle.csl_render.proofs.Reading.{number_info_same}
