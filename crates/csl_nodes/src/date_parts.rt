@@ -1,14 +1,14 @@
 //! The parts of a date (CSL 1.0.2, Date-part; Localized Date Formats; Affixes, Delimiter).
 //! Definitions: specs/Date.antt, specs/Boxes.antt.
 
-ghost use Rattle.std.specs.Prelude.{◌≡◌, ◌&&◌, not, map, unwrap_or, option_map, IfOk, string_bytes, None, if◌then◌else◌};
+ghost use Rattle.std.specs.Prelude.{◌≡◌, ◌&&◌, not, map, unwrap_or, option_map, IfOk, string_bytes};
 ghost use Rattle.lit_model.specs.Date.{date_view};
 ghost use Rattle.csl_elements.specs.declared.date.DateParts.TheVariants.{YearMonthDay};
 ghost use Rattle.csl_elements.specs.Dressing.{dressing_of};
 ghost use Rattle.csl_elements.specs.View.{view_date_part};
 ghost use Rattle.csl_tree.specs.Tokens.{has_children};
 ghost use Rattle.csl_context.specs.Context.{Runs, Gives, render_input, with_content};
-ghost use Rattle.csl_context.specs.Texts.{text_in, between_in};
+ghost use Rattle.csl_context.specs.Texts.{text_in};
 ghost use Rattle.csl_nodes.specs.Boxes.{in_plain, plain_between};
 ghost use Rattle.csl_nodes.specs.Date as spec;
 
@@ -238,11 +238,8 @@ fn render_part<'s, T: EntryLike>(
     own: Option<&DatePart>,
     part: &DatePart,
 ) -> Result<(), RenderError>
-    ensures { Runs (λ now. with_content (λ inh. spec.part_content (render_input T.answers now)
-        (unwrap_or (spec.localized_node written.entry).parts YearMonthDay) found.entry.suffix.now
-        (date_view found.entry.date.now) inh (spec.part_under
-        (option_map (λ part. view_date_part part.now) own.entry)
-        (view_date_part part.now))) now) result ctx.old ctx.new }
+    ensures { Runs (λ now. with_content (λ inh. spec.printed_part (render_input T.answers now)
+        written.entry found.entry inh own.entry part.now) now) result ctx.old ctx.new }
 {
     let bare = Affixes::default();
     let alone = is_suffix_alone(ctx.special_form());
@@ -267,19 +264,11 @@ fn render_next_part<'s, T: EntryLike>(
     part: &DatePart,
     first: bool,
 ) -> Result<bool, RenderError>
-    ensures value { Gives result (first && not (has_children (spec.part_content
-        (render_input T.answers ctx.old) (unwrap_or
-        (spec.localized_node written.entry).parts YearMonthDay)
-        found.entry.suffix.now (date_view found.entry.date.now) ctx.old.inherited (spec.part_under
-        (option_map (λ part. view_date_part part.now) own.entry) (view_date_part part.now))))) }
-    ensures after { Runs (λ now. with_content (λ inh.
-        let part = spec.part_content (render_input T.answers now)
-        (unwrap_or (spec.localized_node written.entry).parts YearMonthDay) found.entry.suffix.now
-        (date_view found.entry.date.now) inh (spec.part_under
-        (option_map (λ part. view_date_part part.now) own.entry) (view_date_part part.now)) in
-        if first then part else between_in inh (spec.localized_node written.entry).delimiter None
-        part)
-        now) result ctx.old ctx.new }
+    ensures value { Gives result (first && not (has_children (spec.printed_part
+        (render_input T.answers ctx.old) written.entry found.entry ctx.old.inherited own.entry
+        part.now))) }
+    ensures after { Runs (λ now. with_content (λ inh. spec.next_part (render_input T.answers now)
+        written.entry found.entry inh own.entry first part.now) now) result ctx.old ctx.new }
 {
     let mark = ctx.push_elem()?;
     render_part(ctx, written, found, own, part)?;
