@@ -161,7 +161,7 @@ impl<'c, 's, T: EntryLike> DryRun<'c, 's, T> {
         Ok(place)
     }
 
-    /// Puts the result for a node into its place. All items behind are for the nodes inside it.
+    /// Puts the result for a node into its place. The items after it are for the nodes inside it.
     pub(crate) fn close_node(&mut self, place: usize, info: NodeInfo)
         requires { place < length self.old.items }
         ensures { self.new ≡ record {
