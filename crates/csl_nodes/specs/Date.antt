@@ -281,12 +281,12 @@ own_named own Year = option_map (λ part. view_date_part part.now) own.year
 
 -- the content of a part of a date as it is written, with the own part of its name over it
 abbrev pub printed_part : RenderInput → LocalizedDate → DateValue → Inherited → Option (Bor DatePart) → DatePart → List Token
-printed_part w written found inh own part =
-    part_content w (unwrap_or (localized_node written).parts YearMonthDay) found.suffix.now (date_view found.date.now) inh
+printed_part w date found inh own part =
+    part_content w (unwrap_or (localized_node date).parts YearMonthDay) found.suffix.now (date_view found.date.now) inh
     (part_under (option_map (λ part. view_date_part part.now) own) (view_date_part part))
 
 -- the same after the delimiter, unless it is the first part that prints something
 abbrev pub next_part : RenderInput → LocalizedDate → DateValue → Inherited → Option (Bor DatePart) → Bool → DatePart → List Token
-next_part w written found inh own first part =
-    let content = printed_part w written found inh own part in
-    if first then content else between_in inh (localized_node written).delimiter None content
+next_part w date found inh own first part =
+    let content = printed_part w date found inh own part in
+    if first then content else between_in inh (localized_node date).delimiter None content
