@@ -7,8 +7,8 @@
      the same memory. What a call writes to is initialised before, as by `= {0}` or calloc.
    - An engine begins as {0}, which is closed. Its pointer is never read, written or copied, but to
      move the engine. It ends by sulleqti_close.
-   - One call at a time on an engine, which may go from thread to thread between calls, as by a lock.
-     Any number of threads, each with engines of its own, may call at once.
+   - All calls on an engine are of one thread. Any number of threads, each with engines of its own,
+     may call at once.
    - malloc, realloc and free are of one family, safe for threads, and align like glibc's.
    - No call from a signal handler, nor in the child of a fork of a process with threads.
    - At least 512 KiB of stack are free at a call: 360 KB were the most that was counted, at JSON's

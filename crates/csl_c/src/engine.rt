@@ -12,7 +12,8 @@ use std::marker::Model;
 use std::mem;
 use std::ptr::null_mut;
 
-/// An engine. What an open one keeps stands where `at` points to.
+/// An engine. What an open one keeps stands where `at` points to. It stays on its thread: nothing
+/// proves that it is `Send`.
 #[repr(C)]
 pub struct Engine {
     at: *mut u8,
@@ -25,9 +26,6 @@ impl Model for Engine {
 
     ghost also_owns = { λ e. held e.alloc e.at e.kept };
 }
-
-// SAFETY: it owns a box, whose value is `Send` (`Parts::of`).
-unsafe impl Send for Engine {}
 
 impl Engine {
     /// A closed engine.

@@ -7,9 +7,13 @@ use crate::rendered::Content;
 use crate::request::SpecificLocator;
 use crate::sys::Handle;
 
-/// The library, with the styles that it keeps. An engine may go from thread to thread, but threads
-/// cannot share one. Any number of threads may have engines of their own. A call needs 512 KiB of
-/// stack.
+/// The library, with the styles that it keeps. An engine stays on its thread. Any number of threads
+/// may have engines of their own. A call needs 512 KiB of stack.
+///
+/// ```compile_fail
+/// fn send<T: Send>() {}
+/// send::<sulleqti::Engine>();
+/// ```
 pub struct Engine {
     handle: Handle,
 }

@@ -27,11 +27,8 @@ extern "C" {
     fn sulleqti_protocol() -> u64;
 }
 
-/// An engine that is open. As it has a pointer, threads cannot share it.
+/// An engine that is open. As it has a pointer, it stays on its thread.
 pub(crate) struct Handle(Kept);
-
-// SAFETY: an engine may go from thread to thread between calls (hosts/c/sulleqti.h).
-unsafe impl Send for Handle {}
 
 /// The outcome of a call by its status.
 fn outcome(status: c_int) -> Result<(), Error> {

@@ -254,19 +254,3 @@ fn threads() {
     assert!(lists.iter().flatten().all(|list| *list == lists[0][0]));
     assert_eq!(lists[1][19].citations[1].content.text, "Kwan (2014: 7)");
 }
-
-/// An engine that goes to another thread with its style, and comes back.
-#[test]
-fn another_thread() -> Result<(), Error> {
-    let mut engine = Engine::new()?;
-    let style = engine.style("year", YEAR)?;
-    let there = style.clone();
-    let thread = thread::spawn(move || {
-        let cite = engine.cite(&there, &BOOKS[1], None).map(|cite| cite.text);
-        (engine, cite)
-    });
-    let (mut engine, cite) = thread.join().expect("a thread ends");
-    assert_eq!(cite.as_deref(), Ok("Kwan 2014"));
-    assert_eq!(engine.cite(&style, &BOOKS[2], None)?.text, "Roe 2010");
-    Ok(())
-}
