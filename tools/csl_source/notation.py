@@ -1,10 +1,8 @@
-"""The notation of tests/rows: forms in parentheses, and texts in quotes."""
+"""The notation of tests/rows: forms in parentheses, and texts in quotes (tools/search_limits)."""
 import re
 from typing import Iterable, Union
 
 from sulleqti.works import CONTROL
-
-LINE = 100
 
 
 def in_quotes(text: str) -> str:
@@ -33,28 +31,3 @@ class Form:
         """The list on one line."""
         parts = (it if isinstance(it, str) else it.flat() for it in self.parts)
         return f"({' '.join([self.head, *self.attributes, *parts])})"
-
-    def lines(self, indent: int) -> list[str]:
-        """The lines of the list. No text is broken."""
-        space, text = " " * indent, self.flat()
-        if len(space + text) <= LINE:
-            return [space + text]
-        found = filled(f"{space}({self.head}", self.attributes, indent + 2)
-        for part in self.parts:
-            if isinstance(part, Form):
-                found += part.lines(indent + 2)
-            else:
-                found[-1:] = filled(found[-1], [part], indent + 2)
-        found[-1] += ")"
-        return found
-
-
-def filled(line: str, words: list[str], indent: int) -> list[str]:
-    """The line with these words after it, on further lines once it is full."""
-    found = [line]
-    for word in words:
-        if len(f"{found[-1]} {word}") > LINE:
-            found.append(" " * indent + word)
-        else:
-            found[-1] += f" {word}"
-    return found
