@@ -10,7 +10,7 @@ import os
 import re
 
 from kit import Failure, kit, read, words_of_try
-from sources import FUNCTION, function_around, functions_of
+from sources import function_around, functions_of, made
 from unproved import Built, checked, compiled, compiled_c, link
 from wrong_bodies import Entry, all_entries
 
@@ -25,7 +25,8 @@ Place = tuple[str, int, int]
 
 def bodies_of(text: str) -> list[tuple[int, int]]:
     """Where the bodies of functions begin and end in a file, braces included."""
-    return [(it.body, it.end) for it in functions_of(text) if it.body < it.end - 1]
+    places = ((it.body(), it.end) for it in functions_of(text))
+    return [(start, end) for start, end in places if start < end - 1]
 
 
 def is_in_body(text: str, old: str) -> bool:
@@ -37,7 +38,7 @@ def is_in_body(text: str, old: str) -> bool:
 def is_constant(text: str, start: int) -> bool:
     """Whether a body is that of a function which is computed while the program is compiled."""
     found = function_around(text, start)
-    return bool(found and "const " in text[found.start:text.index(found.name, found.start)])
+    return bool(found and "const " in found.head().partition("fn ")[0])
 
 
 class Planting:
@@ -84,7 +85,8 @@ class Planting:
     def fault_of(self, edited: dict[str, str], lines: dict[tuple[str, str], str]) -> str:
         """Why an edit cannot be planted, or an empty text."""
         for (file, old), new in lines.items():
-            if not re.match(r"\s*use ", old) and not FUNCTION.match(old.lstrip()):
+            changed_for_all = made(old.lstrip(), None)
+            if not changed_for_all or changed_for_all[0] not in ("use", "fn"):
                 return f"it changes what is in no body: {old}"
             if self.lines.get((file, old), new) != new:
                 return f"another edit changes the same line: {old}"
