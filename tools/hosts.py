@@ -4,7 +4,7 @@ import contextlib
 import re
 import shutil
 import subprocess
-from typing import ContextManager, Iterator
+from typing import ContextManager
 
 from as_proved import built
 from kit import TOP, Failure, read

@@ -2,6 +2,7 @@
 and clauses, and the paths by which a caller imports them. It relies on how `rt fmt` writes a
 file."""
 import functools
+import glob
 import os
 import re
 from typing import Iterable, Iterator, NamedTuple
@@ -17,6 +18,12 @@ VARIANT = re.compile(r"([A-Z]\w*)(.*),", re.S)
 CLAUSE = re.compile(r"^\s*(ensures|requires)\*?(?: (\w+))? (?=\{)", re.M)
 ENDS_OF_HEAD = re.compile(r"\n\s*(?:requires|ensures|ghost|where)\b|\{|;")
 ABOVE = re.compile(r" *(?:#\[|//)")
+
+
+def texts_of(top: str, crate: str = "*") -> Iterator[tuple[str, str]]:
+    """The sources of a crate of a checkout, or of all, each with its path in the checkout."""
+    for path in sorted(glob.glob(f"{top}/crates/{crate}/src/**/*.rt", recursive=True)):
+        yield os.path.relpath(path, top), read(path)
 
 
 @functools.cache

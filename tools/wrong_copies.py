@@ -125,8 +125,8 @@ def method_of(source: Source, crate: str, known: str = "") -> tuple[str, str]:
     trait, and the lines that these need besides known ones; or empty texts, if it has no copy."""
     found, around = source.found, source.found.around
     block = around and re.fullmatch(r"impl(?:<(.*)>)? (\w+) for ([\w<>]+)", around.head())
-    path = source.function.replace("::", "/")
-    if found.cycle() or not around or not block or glob.glob(f"{crate}/proofs/**/{path}/", recursive=True):
+    own_proofs = f"{crate}/proofs/**/{source.function.replace('::', '/')}/"
+    if not around or not block or found.cycle() or glob.glob(own_proofs, recursive=True):
         return "", ""
     head = r" *fn (\w+)(?:<(.*?)>)?\(\s*&('\w+ )?(mut )?self([^{]*) \{\n"
     own = re.match(head, source.text())

@@ -6,7 +6,8 @@ import json
 import os
 import re
 
-from kit import TOP, read
+from kit import TOP, read, uses_of_crates
+from sources import texts_of
 from sulleqti.names import OTHER_SPELLINGS
 
 VARIABLES = ("StandardVariable", "NumberVariable", "PageVariable", "DateVariable", "NameVariable")
@@ -23,13 +24,8 @@ NAMED = (*VARIABLES, "Kind", "OtherTerm", "Locator", "FontStyle", "FontVariant",
 def sources() -> list[str]:
     """The texts of `csl_style`, of the crates that it stands on, and of `csl_list`, in this
     order."""
-    with open(f"{TOP}/crates.txt", encoding="utf-8") as lines:
-        below = next(line.split(":")[1].split() for line in lines if line.startswith("csl_style:"))
-    texts = []
-    for crate in ["csl_style", *below, "csl_list"]:
-        for path in sorted(glob.glob(f"{TOP}/crates/{crate}/src/**/*.rt", recursive=True)):
-            texts.append(read(path))
-    return texts
+    crates = ["csl_style", *uses_of_crates()["csl_style"], "csl_list"]
+    return [text for crate in crates for _, text in texts_of(TOP, crate)]
 
 
 @functools.cache
