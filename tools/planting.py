@@ -9,7 +9,7 @@ for all: names that are visible to more, and imports that nothing uses, change n
 import os
 import re
 
-from kit import Failure, kit, read, words_of_try
+from kit import Failure, kit, read, words_of_try, write
 from sources import function_around, functions_of, made
 from unproved import Built, checked, compiled, compiled_c, link
 from wrong_bodies import Entry, all_entries
@@ -125,9 +125,7 @@ class Planting:
     def write(self) -> None:
         """Writes the files with all bodies."""
         for file in {place[0] for place in self.bodies} | {file for file, _ in self.lines}:
-            text = self.text_with(file)
-            with open(f"{self.checkout}/{file}", "w", encoding="utf-8") as source:
-                source.write(text)
+            write(f"{self.checkout}/{file}", self.text_with(file))
 
 
 def planting_of(checkout: str, entries: list[Entry]) -> Planting:
@@ -151,8 +149,7 @@ def name_at(checkout: str, names: list[str], said: str) -> str:
     for file, line in re.findall(r"^(\S+\.rt):(\d+):\d+: error", said, re.M):
         for path in (file, f"{checkout}/{file}"):
             if os.path.isfile(path):
-                with open(path, encoding="utf-8") as source:
-                    above = "".join(source.readlines()[:int(line)])
+                above = "\n".join(read(path).split("\n")[:int(line)])
                 numbers = re.findall(r"\bchosen_body\((\d+)\)", above)
                 return names[int(numbers[-1]) - 1] if numbers else ""
     return ""

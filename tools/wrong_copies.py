@@ -13,7 +13,7 @@ import re
 import shutil
 from dataclasses import dataclass
 
-from kit import read
+from kit import read, write
 from sources import Item, function_around, functions_of, impl_of
 from wrong_bodies import Edit, function_at, module_path
 
@@ -164,8 +164,7 @@ def rename(folder: str, old: str, new: str) -> None:
         text = read(file)
         for part in ("Goals", "Given"):
             text = text.replace(f"{old}{part}", f"{new}{part}")
-        with open(file, "w", encoding="utf-8") as proofs:
-            proofs.write(text)
+        write(file, text)
 
 
 def copy_proofs(proofs: str, path: str, name: str) -> None:
@@ -188,9 +187,7 @@ def copy_proofs_of_cycle(proofs: str, path: str, cycle: str, name: str) -> None:
         around = os.path.relpath(os.path.dirname(os.path.dirname(file)), proofs)
         inner = os.path.dirname(found[1].replace("::", "/"))
         to = os.path.normpath(f"{proofs}/{around}/{inner}/{name}")
-        os.makedirs(to, exist_ok=True)
-        with open(f"{to}/{os.path.basename(file)}", "w", encoding="utf-8") as answers:
-            answers.write(own_answers(text, found[1]))
+        write(f"{to}/{os.path.basename(file)}", own_answers(text, found[1]))
         module = os.path.relpath(to, proofs).replace("/", ".")
         own = os.path.relpath(os.path.dirname(file), proofs).replace("/", ".")
         rename(to, f".proofs.{own}.", f".proofs.{module}.")
