@@ -17,6 +17,7 @@ FIELD = re.compile(r"(pub(?:\([a-z]+\))? )?(\w+): (.*),", re.S)
 VARIANT = re.compile(r"([A-Z]\w*)(.*),", re.S)
 CLAUSE = re.compile(r"^\s*(ensures|requires)\*?(?: (\w+))? (?=\{)", re.M)
 ENDS_OF_HEAD = re.compile(r"\n\s*(?:requires|ensures|ghost|where)\b|\{|;")
+# A line of an attribute or a comment.
 ABOVE = re.compile(r" *(?:#\[|//)")
 
 

@@ -15,7 +15,7 @@ from dataclasses import dataclass, field
 from typing import Iterable, Iterator
 
 from kit import TOP, Failure, read
-from sources import function_around, parts_of_block
+from sources import ABOVE, function_around, parts_of_block
 
 # What is said of a proof file that names what an edit took away: it shows nothing of the contract.
 LOST_NAME = r"has no field|is not in scope|has no `|was not admitted"
@@ -290,7 +290,7 @@ class Check:
         told at the first of its attributes."""
         text = self.texts.get(file, "")
         lines = text.split("\n")
-        while line < len(lines) and re.match(r" *(?:#\[|//)", lines[line - 1]):
+        while line < len(lines) and ABOVE.match(lines[line - 1]):
             line += 1
         end = len("\n".join(lines[:line]))
         return function_at(self.name, file, text, end)[0]
