@@ -2,6 +2,7 @@
 //! Definitions: specs/Held.antt.
 
 ghost use Rattle.std.specs.Prelude.{◌≡◌, Option, None, Some, MatchOption};
+ghost use Rattle.csl_c.specs.Held.{kept_code};
 ghost use Rattle.csl_session.specs.declared.conversation.Conversation.{Conversation as Kept};
 
 use crate::parts::Parts;
@@ -16,7 +17,7 @@ use std::ptr::null_mut;
 pub struct Engine {
     at: *mut u8,
     alloc: Global,
-    pub ghost kept: { Option Kept },
+    pub ghost kept: { Option Kept } by { kept_code },
 }
 
 impl Model for Engine {
@@ -25,7 +26,7 @@ impl Model for Engine {
     ghost also_owns = { λ e. held e.alloc e.at e.kept };
 }
 
-// SAFETY: it owns a box, and nothing of a thread.
+// SAFETY: it owns a box, whose value is `Send` (`Parts::of`).
 unsafe impl Send for Engine {}
 
 impl Engine {

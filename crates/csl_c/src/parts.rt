@@ -1,7 +1,8 @@
 //! A box as a pointer and the heap that it is from.
+//! Definitions: specs/Held.antt.
 
 ghost use Rattle.std.specs.Prelude.{◌≡◌};
-ghost use Rattle.std.specs.Box.Ownership.{box_owns};
+ghost use Rattle.csl_c.specs.Held.{sent_box};
 
 use std::alloc::Allocator;
 use std::marker::Model;
@@ -14,12 +15,14 @@ pub struct Parts<T, A: Allocator> {
 }
 
 impl<T, A: Allocator> Model for Parts<T, A> {
-    ghost also_owns = { λ p. box_owns (A.dealloc_token p.alloc) T.row p.at p.value };
+    ghost also_owns = { λ p. sent_box (A.dealloc_token p.alloc) T.row p.at p.value };
 }
 
 impl<T: Drop, A: Allocator> Parts<T, A> {
-    /// A box, taken apart.
+    /// A box, taken apart. What C keeps of it may go from thread to thread.
     pub fn of(whole: Box<T, A>) -> Parts<T, A>
+    where
+        T: Send,
         ensures { result.value ≡ whole.value }
     {
         let (at, alloc) = Box::into_raw_with_allocator(whole);

@@ -72,8 +72,8 @@ affixed_after moved inh a c = affixed_in inh (affixes_after_move moved a) c
 
 -- quotes within quotes are of the other kind
 abbrev pub toggled_if : Bool → Bool → Bool
-toggled_if true depth = not depth
-toggled_if false depth = depth
+toggled_if true inside = not inside
+toggled_if false inside = inside
 
 -- a body in quotes, if the node has them
 abbrev pub in_quotes_if : Bool → StyleParts → Inherited → Option (List ℕ) → List Token → List Token

@@ -7,7 +7,7 @@ use Rattle.std.specs.Option.{option_or}
 use denote.Enum.Bare.{sameb}
 use Rattle.csl_common.specs.declared.form.LongShortForm.TheVariants as text_form
 use Rattle.lit_model.specs.Chunks.{chunks_text}
-use Rattle.lit_model.specs.Date.{DateView}
+use Rattle.lit_model.specs.Date.{DateView, date_view}
 use Rattle.lit_model.specs.Text.{Chunk}
 use Rattle.csl_elements.specs.contracts.date.DatePartName.{the_type}
 use Rattle.csl_elements.specs.declared.date.DateAnyForm.{DateAnyForm}
@@ -32,7 +32,7 @@ use Rattle.csl_entry.specs.declared.citation.cite.Sorting.{Sorting}
 use Rattle.csl_entry.specs.declared.citation.cite.SpecialForm.{SpecialForm}
 use Rattle.csl_entry.specs.declared.citation.cite.SpecialForm.TheVariants.{VarOnly, OnlyFirstDate, OnlyYearSuffix, SuppressAuthor}
 use Rattle.csl_context.specs.State.{State, Inherited, state_after_resolve}
-use Rattle.csl_context.specs.Texts.{text_in, text_in_if}
+use Rattle.csl_context.specs.Texts.{text_in, text_in_if, between_in}
 use Rattle.csl_context.specs.RenderInput.{RenderInput, peek_standard, peek_date, localized_date}
 use Rattle.csl_nodes.specs.Boxes.{in_plain, plain_between, plain_box}
 use Rattle.csl_nodes.specs.DateText.{is_written, part_text}
@@ -42,7 +42,9 @@ use Rattle.csl_nodes.specs.Number.{presence_info}
 use Rattle.csl_nodes.specs.Text.{RenderOutput, render_output, same_variable, no_affix_texts}
 use Rattle.std.specs.Borrow.{Bor}
 use Rattle.csl_elements.specs.declared.date.Date.{Date}
+use Rattle.csl_elements.specs.declared.date.DatePart.{DatePart}
 use Rattle.csl_elements.specs.View.{view_date, view_date_part}
+use Rattle.csl_nodes.specs.declared.date_parts.DateValue.{DateValue}
 use Rattle.csl_nodes.specs.declared.date_parts.LocalizedDate.{LocalizedDate}
 use Rattle.csl_nodes.specs.declared.date_parts.OwnParts.{OwnParts}
 
@@ -276,3 +278,15 @@ abbrev pub own_named : OwnParts → DatePartName → Option DatePartNode
 own_named own Day = option_map (λ part. view_date_part part.now) own.day
 own_named own Month = option_map (λ part. view_date_part part.now) own.month
 own_named own Year = option_map (λ part. view_date_part part.now) own.year
+
+-- the content of a part of a date as it is written, with the own part of its name over it
+abbrev pub printed_part : RenderInput → LocalizedDate → DateValue → Inherited → Option (Bor DatePart) → DatePart → List Token
+printed_part w date found inh own part =
+    part_content w (unwrap_or (localized_node date).parts YearMonthDay) found.suffix.now (date_view found.date.now) inh
+    (part_under (option_map (λ part. view_date_part part.now) own) (view_date_part part))
+
+-- the same after the delimiter, unless it is the first part that prints something
+abbrev pub next_part : RenderInput → LocalizedDate → DateValue → Inherited → Option (Bor DatePart) → Bool → DatePart → List Token
+next_part w date found inh own first part =
+    let content = printed_part w date found inh own part in
+    if first then content else between_in inh (localized_node date).delimiter None content

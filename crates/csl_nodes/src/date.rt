@@ -145,43 +145,43 @@ fn render_key<'s, T: EntryLike>(
 /// Appends the box of a date around its parts.
 fn write_box<'s, T: EntryLike>(
     ctx: &mut Context<'s, T>,
-    written: LocalizedDate<'_>,
+    date: LocalizedDate<'_>,
     found: DateValue<'_>,
 ) -> Result<(), RenderError>
     ensures { Runs (λ now. with_content (spec.date_box (render_input T.answers now)
-        (spec.localized_node written.entry) found.entry.suffix.now (date_view found.entry.date.now))
+        (spec.localized_node date.entry) found.entry.suffix.now (date_view found.entry.date.now))
         now)
         result ctx.old ctx.new }
 {
     let around = BodyDressing {
-        formatting: written.formatting(),
-        affixes: &written.node.affixes,
+        formatting: date.formatting(),
+        affixes: &date.node.affixes,
         quotes: false,
         strip_periods: false,
     };
     let element = ctx.push_elem()?;
     let before = ctx.open_body(around)?;
-    render_parts(ctx, written, found)?;
+    render_parts(ctx, date, found)?;
     ctx.close_body(around, before)?;
-    ctx.commit_elem(element, written.node.display, Some(ElemMeta::Date))?;
+    ctx.commit_elem(element, date.node.display, Some(ElemMeta::Date))?;
     Ok(())
 }
 
 /// Appends the box of a date. From then on a date counts as rendered.
 fn render_box<'s, T: EntryLike>(
     ctx: &mut Context<'s, T>,
-    written: LocalizedDate<'_>,
-    date: &Given,
+    date: LocalizedDate<'_>,
+    given: &Given,
 ) -> Result<(), RenderError>
     ensures { Appends T.answers (λ w. spec.printed_date w
-        (Some (spec.localized_node written.entry)) (date_view date.now)) result ctx.old ctx.new }
+        (Some (spec.localized_node date.entry)) (date_view given.now)) result ctx.old ctx.new }
 {
     let suffix = first_suffix(ctx)?;
     let found = DateValue {
-        date,
+        date: given,
         suffix: suffix.as_str(),
     };
-    write_box(ctx, written, found)
+    write_box(ctx, date, found)
 }
 
 /// Renders a date that was found: its sort key while sorting, else its box. There is no box if the

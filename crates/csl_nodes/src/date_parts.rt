@@ -1,14 +1,14 @@
 //! The parts of a date (CSL 1.0.2, Date-part; Localized Date Formats; Affixes, Delimiter).
 //! Definitions: specs/Date.antt, specs/Boxes.antt.
 
-ghost use Rattle.std.specs.Prelude.{◌≡◌, ◌&&◌, not, map, unwrap_or, option_map, IfOk, string_bytes, None, if◌then◌else◌};
+ghost use Rattle.std.specs.Prelude.{◌≡◌, ◌&&◌, not, map, unwrap_or, option_map, IfOk, string_bytes};
 ghost use Rattle.lit_model.specs.Date.{date_view};
 ghost use Rattle.csl_elements.specs.declared.date.DateParts.TheVariants.{YearMonthDay};
 ghost use Rattle.csl_elements.specs.Dressing.{dressing_of};
 ghost use Rattle.csl_elements.specs.View.{view_date_part};
 ghost use Rattle.csl_tree.specs.Tokens.{has_children};
 ghost use Rattle.csl_context.specs.Context.{Runs, Gives, render_input, with_content};
-ghost use Rattle.csl_context.specs.Texts.{text_in, between_in};
+ghost use Rattle.csl_context.specs.Texts.{text_in};
 ghost use Rattle.csl_nodes.specs.Boxes.{in_plain, plain_between};
 ghost use Rattle.csl_nodes.specs.Date as spec;
 
@@ -71,7 +71,7 @@ fn part_named(parts: &[DatePart], name: DatePartName) -> Option<&DatePart>
 
 impl<'d> LocalizedDate<'d> {
     /// The date-parts of the node, else of the localized date, else year, month and day.
-    fn parts(self) -> DateParts
+    fn date_parts(self) -> DateParts
         ensures { result ≡ unwrap_or (spec.localized_node self.entry).parts YearMonthDay }
     {
         match self.localized {
@@ -105,7 +105,7 @@ impl<'d> LocalizedDate<'d> {
     }
 
     /// The parts in order, without the overrides by the node's own parts.
-    fn date_part(self) -> &'d [DatePart]
+    fn parts(self) -> &'d [DatePart]
         ensures { map (spec.part_over (spec.own_parts self.entry)) (map view_date_part result.now)
             ≡ (spec.localized_node self.entry).date_part }
     {
@@ -233,16 +233,13 @@ fn write_part<'s, T: EntryLike>(
 /// leaves out its affixes.
 fn render_part<'s, T: EntryLike>(
     ctx: &mut Context<'s, T>,
-    written: LocalizedDate<'_>,
+    date: LocalizedDate<'_>,
     found: DateValue<'_>,
     own: Option<&DatePart>,
     part: &DatePart,
 ) -> Result<(), RenderError>
-    ensures { Runs (λ now. with_content (λ inh. spec.part_content (render_input T.answers now)
-        (unwrap_or (spec.localized_node written.entry).parts YearMonthDay) found.entry.suffix.now
-        (date_view found.entry.date.now) inh (spec.part_under
-        (option_map (λ part. view_date_part part.now) own.entry)
-        (view_date_part part.now))) now) result ctx.old ctx.new }
+    ensures { Runs (λ now. with_content (λ inh. spec.printed_part (render_input T.answers now)
+        date.entry found.entry inh own.entry part.now) now) result ctx.old ctx.new }
 {
     let bare = Affixes::default();
     let alone = is_suffix_alone(ctx.special_form());
@@ -253,7 +250,7 @@ fn render_part<'s, T: EntryLike>(
         strip_periods: is_stripped(part.name, part.strip_periods),
     };
     let form = form_over(own, part.form);
-    let text = ctx.attempt(part_value(ctx, found, written.parts(), part.name, form))?;
+    let text = ctx.attempt(part_value(ctx, found, date.date_parts(), part.name, form))?;
     write_part(ctx, around, text.as_str())
 }
 
@@ -261,54 +258,46 @@ fn render_part<'s, T: EntryLike>(
 /// Returns whether still none has.
 fn render_next_part<'s, T: EntryLike>(
     ctx: &mut Context<'s, T>,
-    written: LocalizedDate<'_>,
+    date: LocalizedDate<'_>,
     found: DateValue<'_>,
     own: Option<&DatePart>,
     part: &DatePart,
     first: bool,
 ) -> Result<bool, RenderError>
-    ensures value { Gives result (first && not (has_children (spec.part_content
-        (render_input T.answers ctx.old) (unwrap_or
-        (spec.localized_node written.entry).parts YearMonthDay)
-        found.entry.suffix.now (date_view found.entry.date.now) ctx.old.inherited (spec.part_under
-        (option_map (λ part. view_date_part part.now) own.entry) (view_date_part part.now))))) }
-    ensures after { Runs (λ now. with_content (λ inh.
-        let part = spec.part_content (render_input T.answers now)
-        (unwrap_or (spec.localized_node written.entry).parts YearMonthDay) found.entry.suffix.now
-        (date_view found.entry.date.now) inh (spec.part_under
-        (option_map (λ part. view_date_part part.now) own.entry) (view_date_part part.now)) in
-        if first then part else between_in inh (spec.localized_node written.entry).delimiter None
-        part)
-        now) result ctx.old ctx.new }
+    ensures value { Gives result (first && not (has_children (spec.printed_part
+        (render_input T.answers ctx.old) date.entry found.entry ctx.old.inherited own.entry
+        part.now))) }
+    ensures after { Runs (λ now. with_content (λ inh. spec.next_part (render_input T.answers now)
+        date.entry found.entry inh own.entry first part.now) now) result ctx.old ctx.new }
 {
     let mark = ctx.push_elem()?;
-    render_part(ctx, written, found, own, part)?;
+    render_part(ctx, date, found, own, part)?;
     let is_empty = ctx.open_part_is_empty();
     if first {
         ctx.splice(mark)?;
         return Ok(is_empty);
     }
-    ctx.splice_affixed(mark, written.delimiter(), None)?;
+    ctx.splice_affixed(mark, date.delimiter(), None)?;
     Ok(false)
 }
 
 /// Renders the parts, with the delimiter between those that print something.
 pub(crate) fn render_parts<'s, T: EntryLike>(
     ctx: &mut Context<'s, T>,
-    written: LocalizedDate<'_>,
+    date: LocalizedDate<'_>,
     found: DateValue<'_>,
 ) -> Result<(), RenderError>
     ensures { Runs (λ now. with_content (spec.date_body (render_input T.answers now)
-        (spec.localized_node written.entry) found.entry.suffix.now (date_view found.entry.date.now))
+        (spec.localized_node date.entry) found.entry.suffix.now (date_view found.entry.date.now))
         now)
         result ctx.old ctx.new }
 {
     ctx.ensure_live()?;
     let mut first = true;
-    let own = written.own_parts();
-    let parts = written.date_part();
+    let own = date.own_parts();
+    let parts = date.parts();
     for part in parts {
-        first = render_next_part(ctx, written, found, own.named(part.name), part, first)?;
+        first = render_next_part(ctx, date, found, own.named(part.name), part, first)?;
     }
     Ok(())
 }

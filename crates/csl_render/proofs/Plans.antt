@@ -89,7 +89,7 @@ only_one (i ∷ j ∷ is) e = absurd (omega (arith, e))
 
 -- the result for a node, and the items for the nodes inside it, of which `P`
 abbrev pub AreClosed : NodeInfo → (List PlanItem → Type 0) → List PlanItem → Type 0
-AreClosed i P is = (inside : List PlanItem) × (is ≡ record { info = i; inside = length inside } ∷ inside) × P inside
+AreClosed i P is = (inside : List PlanItem) × (is ≡ record { info = i; descendants = length inside } ∷ inside) × P inside
 
 module _ {T : Type 0} where
   pub adds_none : (P : List PlanItem → Type 0) (run : Run T) → P [] → Adds P run run
@@ -100,7 +100,7 @@ module _ {T : Type 0} where
 
   -- room for a node, the nodes inside it, and then its result
   pub closed : (P : List PlanItem → Type 0) (i : NodeInfo) (place : ℕ) (start opened end next : Run T) → place ≡ length start.items → Adds (λ is. length is ≡ 1) start opened → Adds P opened end
-      → next ≡ record { now = end.now; whole = end.whole; items = set end.items place (record { info = i; inside = length end.items - place - 1 }) }
+      → next ≡ record { now = end.now; whole = end.whole; items = set end.items place (record { info = i; descendants = length end.items - place - 1 }) }
       → Adds (AreClosed i P) start next
   closed P i place start opened end next at room inside e =
       let (j, one) = only_one room.more room.hold in
@@ -111,20 +111,20 @@ module _ {T : Type 0} where
       let long : length end.items ≡ length start.items + suc (length inside.more) = ap length ended ∙ length-append start.items (j ∷ inside.more) in
       let count : length end.items - place - 1 ≡ length inside.more = omega (arith, long, at) in
       record {
-        more = record { info = i; inside = length inside.more } ∷ inside.more;
+        more = record { info = i; descendants = length inside.more } ∷ inside.more;
         added =
             e
-            ∙ ap (λ n. record { now = n; whole = end.whole; items = set end.items place (record { info = i; inside = length end.items - place - 1 }) }) now
-            ∙ ap (λ b. record { now = start.now; whole = b; items = set end.items place (record { info = i; inside = length end.items - place - 1 }) }) whole
-            ∙ ap (λ k. record { now = start.now; whole = start.whole; items = set end.items place (record { info = i; inside = k }) }) count
-            ∙ ap (λ is. record { now = start.now; whole = start.whole; items = set is place (record { info = i; inside = length inside.more }) }) ended
-            ∙ ap (λ is. record { now = start.now; whole = start.whole; items = is }) (set_at start.items j inside.more (record { info = i; inside = length inside.more }) place (sym at));
+            ∙ ap (λ n. record { now = n; whole = end.whole; items = set end.items place (record { info = i; descendants = length end.items - place - 1 }) }) now
+            ∙ ap (λ b. record { now = start.now; whole = b; items = set end.items place (record { info = i; descendants = length end.items - place - 1 }) }) whole
+            ∙ ap (λ k. record { now = start.now; whole = start.whole; items = set end.items place (record { info = i; descendants = k }) }) count
+            ∙ ap (λ is. record { now = start.now; whole = start.whole; items = set is place (record { info = i; descendants = length inside.more }) }) ended
+            ∙ ap (λ is. record { now = start.now; whole = start.whole; items = is }) (set_at start.items j inside.more (record { info = i; descendants = length inside.more }) place (sym at));
         hold = (inside.more, refl, inside.hold);
       }
 
   -- a node without nodes inside does not show the author
   pub leaf : (answers : T → Answers) (run : Run T) (f : ExpandedNode) (i : NodeInfo) → i.shows_author ≡ false → ((s : State) → TellsAuthor (render_input answers run.now) false (shows (render_input answers run.now) s author f))
-      → ((s : State) → AreAlikeOn (render_input answers run.now) i.read (dry_of run) s → answer_of i ≡ info (render_input answers run.now) s f) → ((s : State) → TakesBranch (render_input answers run.now) s f i.branch) → Adds (IsInfo (render_input answers run.now) (dry_of run) f i) run run
+      → ((s : State) → AreAlikeOn (render_input answers run.now) i.variables_read (dry_of run) s → answer_of i ≡ info (render_input answers run.now) s f) → ((s : State) → TakesBranch (render_input answers run.now) s f i.branch) → Adds (IsInfo (render_input answers run.now) (dry_of run) f i) run run
   leaf answers run f i told silent h takes =
       adds_none (IsInfo (render_input answers run.now) (dry_of run) f i) run
       (λ s alike. (ap (counted run.whole) (h s alike), λ asks. told ∙ silent s asks, none_inside (render_input answers run.now) (dry_of run) s f, takes s))
@@ -136,7 +136,7 @@ pub nodes_from : (env : List ℕ → Option ExpandedNodes) (ns : List LayoutRend
 nodes_from env ns i x within is = at_drop_more (λ l. expand_nodes env (view_nodes l)) ns i x within ∙ ap (λ y. expand_nodes env (view_nodes (y ∷ drop (i + 1) ns))) (sym is)
 
 -- the result for a node and the items for those inside it, before the items for the nodes after it
-pub first_planned : (w : RenderInput) (d : DryView) (f : ExpandedNode) (fs : ExpandedNodes) (i : NodeInfo) (inside others : List PlanItem) → IsInfo w d f i inside → AreItems w d fs others → AreItems w d (expanded_node f fs) (record { info = i; inside = length inside } ∷ (inside ++ others))
+pub first_planned : (w : RenderInput) (d : DryView) (f : ExpandedNode) (fs : ExpandedNodes) (i : NodeInfo) (inside others : List PlanItem) → IsInfo w d f i inside → AreItems w d fs others → AreItems w d (expanded_node f fs) (record { info = i; descendants = length inside } ∷ (inside ++ others))
 first_planned w d f fs i inside others one rest = (
   (let long = length-append inside others in omega (arith, long)),
   (λ s alike. subst (λ is. CountsAs d.whole (answer_of i) (info w s f) × TellsAuthor w i.shows_author (shows w s author f) × AreItemsInside w d s f is × TakesBranch w s f i.branch) (sym (take_at inside others (length inside) refl)) (one s alike)),
@@ -162,15 +162,15 @@ one_more w d f fs rest all i start now next from before more =
 
 -- the results so far, with those for the remaining nodes, count as those of all nodes
 abbrev pub CountsSoFar : RenderInput → DryView → ExpandedNodes → ExpandedNodes → NodeInfo → Type 0
-CountsSoFar w d rest all i = (s : State) → AreAlikeOn w i.read d s → CountsAs d.whole (info_union (answer_of i) (nodes_info w s rest)) (nodes_info w s all) × TellsAuthor w (i.shows_author || any_shows w s author rest) (any_shows w s author all)
+CountsSoFar w d rest all i = (s : State) → AreAlikeOn w i.variables_read d s → CountsAs d.whole (info_union (answer_of i) (nodes_info w s rest)) (nodes_info w s all) × TellsAuthor w (i.shows_author || any_shows w s author rest) (any_shows w s author all)
 
 -- and so do they with that for one more node
 pub counts_one_more : (w : RenderInput) (d : DryView) (f : ExpandedNode) (fs rest all : ExpandedNodes) (grouped : Bool) (before one more : NodeInfo) (items : List PlanItem) → rest ≡ expanded_node f fs → grouped ≡ is_group f
-    → IsWithin before.read more.read → IsWithin one.read more.read → answer_of more ≡ info_union (answer_of before) (as_child_info grouped (answer_of one)) → more.shows_author ≡ (before.shows_author || one.shows_author)
+    → IsWithin before.variables_read more.variables_read → IsWithin one.variables_read more.variables_read → answer_of more ≡ info_union (answer_of before) (as_child_info grouped (answer_of one)) → more.shows_author ≡ (before.shows_author || one.shows_author)
     → CountsSoFar w d rest all before → IsInfo w d f one items → CountsSoFar w d fs all more
 counts_one_more w d f fs rest all grouped before one more items from same_group before_within one_within answer author_told so_far found s alike =
-    let told = so_far s (alike_within w before.read more.read d s before_within alike) in
-    let new = found s (alike_within w one.read more.read d s one_within alike) in (
+    let told = so_far s (alike_within w before.variables_read more.variables_read d s before_within alike) in
+    let new = found s (alike_within w one.variables_read more.variables_read d s one_within alike) in (
       ap (λ a. counted d.whole (info_union a (nodes_info w s fs))) (answer ∙ ap (λ b. info_union (answer_of before) (as_child_info b (answer_of one))) same_group)
           ∙ child_counts (answer_of before) (nodes_info w s fs) (is_group f) d.whole (answer_of one) (info w s f) new.0
           ∙ ap (counted d.whole) (either_assoc (answer_of before) (as_child_info (is_group f) (info w s f)) (nodes_info w s fs))
@@ -183,7 +183,7 @@ counts_one_more w d f fs rest all grouped before one more items from same_group 
     )
 
 -- no nodes are left
-pub counts_all : (w : RenderInput) (d : DryView) (rest all : ExpandedNodes) (i : NodeInfo) → rest ≡ no_expanded_nodes → CountsSoFar w d rest all i → (s : State) → AreAlikeOn w i.read d s
+pub counts_all : (w : RenderInput) (d : DryView) (rest all : ExpandedNodes) (i : NodeInfo) → rest ≡ no_expanded_nodes → CountsSoFar w d rest all i → (s : State) → AreAlikeOn w i.variables_read d s
     → CountsAs d.whole (answer_of i) (nodes_info w s all) × TellsAuthor w i.shows_author (any_shows w s author all)
 counts_all w d rest all i none so_far s alike =
     let told = so_far s alike in (
@@ -193,7 +193,7 @@ counts_all w d rest all i none so_far s alike =
 
 -- the nodes that are left change nothing that groups count, and no special form asks for them
 pub counts_enough : (w : RenderInput) (d : DryView) (rest all : ExpandedNodes) (i : NodeInfo) → d.whole ≡ false → w.instance.special ≡ None → (answer_of i).prints ≡ true → (answer_of i).flags.has_vars ≡ true → (answer_of i).flags.has_non_empty_vars ≡ true → CountsSoFar w d rest all i
-    → (s : State) → AreAlikeOn w i.read d s → CountsAs d.whole (without_group_flag (answer_of i)) (without_group_flag (nodes_info w s all)) × TellsAuthor w i.shows_author (any_shows w s author all)
+    → (s : State) → AreAlikeOn w i.variables_read d s → CountsAs d.whole (without_group_flag (answer_of i)) (without_group_flag (nodes_info w s all)) × TellsAuthor w i.shows_author (any_shows w s author all)
 counts_enough w d rest all i plan plain prints vars full so_far s alike = (
   settled d.whole (answer_of i) (nodes_info w s rest) plan prints vars full ∙ no_group_counts d.whole (info_union (answer_of i) (nodes_info w s rest)) (nodes_info w s all) (so_far s alike).0,
   λ asks. absurd (false≢true (ap asks_for_author (sym plain) ∙ asks)),
@@ -217,7 +217,7 @@ pub asked : {T : Type 0} (answers : T → Answers) (now : ContextView T) (f : Ex
     → dry_view r.at ≡ dry_now end.now → r.flags ≡ i.flags → r.shows_author ≡ i.shows_author → r.branch ≡ i.branch → r.inside.items ≡ end.items → IsDryRun answers now f r
 asked answers now f i end r h at answer told taken inside =
     let w = render_input answers now in
-    let holds = h.hold now.state (alike_to_itself false w i.read now.state) in (
+    let holds = h.hold now.state (alike_to_itself false w i.variables_read now.state) in (
       ap (λ flags. counted false (info_of_flags flags)) answer ∙ holds.0,
       λ asks. told ∙ holds.1 asks,
       subst (λ d. AreItemsInside w d now.state f r.inside.items) (sym (at ∙ ap (λ r. dry_now r.now) h.added)) (subst (AreItemsInside w (dry_now now) now.state f) (sym (inside ∙ ap (λ r. r.items) h.added)) holds.2),
@@ -278,9 +278,9 @@ module _ (w : RenderInput) (s t : State) (read : VariableSet) (alike : AreSuppre
 
 -- ---- a node around nodes, by the dry run of these nodes
 
-module _ (w : RenderInput) (d : DryView) (i r : NodeInfo) (read : r.read ≡ i.read) (told : r.shows_author ≡ i.shows_author) where
+module _ (w : RenderInput) (d : DryView) (i r : NodeInfo) (read : r.variables_read ≡ i.variables_read) (told : r.shows_author ≡ i.shows_author) where
   pub around : (fs : ExpandedNodes) (f : Info → Info) (is : List PlanItem) → ((whole : Bool) (a b : Info) → CountsAs whole a b → CountsAs whole (f a) (f b)) → IsInfoOfNodes w d fs i is → answer_of r ≡ f (answer_of i)
-      → (s : State) → AreAlikeOn w r.read d s → CountsAs d.whole (answer_of r) (f (nodes_info w s fs)) × TellsAuthor w r.shows_author (any_shows w s author fs) × AreItems w d fs is × ⊤
+      → (s : State) → AreAlikeOn w r.variables_read d s → CountsAs d.whole (answer_of r) (f (nodes_info w s fs)) × TellsAuthor w r.shows_author (any_shows w s author fs) × AreItems w d fs is × ⊤
   around fs f is counts h e s alike =
       let holds = h.0 s (subst (λ x. AreAlikeOn w x d s) read alike) in
       (ap (counted d.whole) e ∙ counts d.whole (answer_of i) (nodes_info w s fs) holds.0, λ asks. told ∙ holds.1 asks, h.1, tt)
@@ -289,8 +289,8 @@ module _ (w : RenderInput) (d : DryView) (i r : NodeInfo) (read : r.read ≡ i.r
   around_group env g is h e = subst (λ n. IsInfo w d (expand env n) r is) (sym (group_out g)) (around _ group_info is group_counts h e)
 
 -- the result for a choice, by that for the nodes that it takes in the state of the dry run
-pub around_taken : (whole : Bool) (w : RenderInput) (s : State) (env : List ℕ → Option ExpandedNodes) (c : Choose) (taken : Option Nodes) (tested : VariableSet) (r : NodeInfo) (is : List PlanItem) → HasAllTested tested c → IsWithin tested r.read → taken ≡ chosen_children w s (view_choose c)
-    → ((u : State) → AreAlikeOn w r.read (state_for_dry_run whole w.instance.special s) u → CountsAs whole (answer_of r) (choice_info w u (option_map (expand_nodes env) taken)) × TellsAuthor w r.shows_author (choice_shows w u author (option_map (expand_nodes env) taken)))
+pub around_taken : (whole : Bool) (w : RenderInput) (s : State) (env : List ℕ → Option ExpandedNodes) (c : Choose) (taken : Option Nodes) (tested : VariableSet) (r : NodeInfo) (is : List PlanItem) → HasAllTested tested c → IsWithin tested r.variables_read → taken ≡ chosen_children w s (view_choose c)
+    → ((u : State) → AreAlikeOn w r.variables_read (state_for_dry_run whole w.instance.special s) u → CountsAs whole (answer_of r) (choice_info w u (option_map (expand_nodes env) taken)) × TellsAuthor w r.shows_author (choice_shows w u author (option_map (expand_nodes env) taken)))
     → AreItemsIfTaken w (state_for_dry_run whole w.instance.special s) (option_map (expand_nodes env) taken) is → nodes_of_branch (view_choose c) r.branch ≡ taken → IsInfo w (state_for_dry_run whole w.instance.special s) (expand env (view_choose c)) r is
 around_taken whole w s env c taken tested r is has within here tells inside place u alike =
     let there = here ∙ same_chosen w s u tested (λ v h. alike.1 v (within v h)) c has in
@@ -303,12 +303,12 @@ around_taken whole w s env c taken tested r is has within here tells inside plac
 
 -- the result for substitutes, by that for the nodes that they take
 around_first : (w : RenderInput) (d : DryView) (ss : ExpandedSubstitutes) (taken : Option ExpandedNodes) (r : NodeInfo) (is : List PlanItem) → ((u : State) → substitute_info w u ss ≡ choice_info w u taken) → ((u : State) → substitute_shows w u author ss ≡ choice_shows w u author taken) → (AreItemsIfTaken w d taken is → AreItemsOfSubstitutes w d ss is)
-    → ((u : State) → AreAlikeOn w r.read d u → CountsAs d.whole (answer_of r) (choice_info w u taken) × TellsAuthor w r.shows_author (choice_shows w u author taken)) → AreItemsIfTaken w d taken is → IsInfoOfSubstitutes w d ss r is
+    → ((u : State) → AreAlikeOn w r.variables_read d u → CountsAs d.whole (answer_of r) (choice_info w u taken) × TellsAuthor w r.shows_author (choice_shows w u author taken)) → AreItemsIfTaken w d taken is → IsInfoOfSubstitutes w d ss r is
 around_first w d ss taken r is same shown from tells inside = (λ u alike. ((tells u alike).0 ∙ ap (counted d.whole) (sym (same u)), λ asks. (tells u alike).1 asks ∙ sym (shown u)), from inside)
 
 -- the result for the substitutes of a names node, by that for the children of the first
 pub around_substitute : (w : RenderInput) (d : DryView) (env : List ℕ → Option ExpandedNodes) (x : Names) (taken : Option Nodes) (r : NodeInfo) (is : List PlanItem) → taken ≡ first_substitute (names_substitutes x)
-    → ((u : State) → AreAlikeOn w r.read d u → CountsAs d.whole (answer_of r) (choice_info w u (option_map (expand_nodes env) taken)) × TellsAuthor w r.shows_author (choice_shows w u author (option_map (expand_nodes env) taken)))
+    → ((u : State) → AreAlikeOn w r.variables_read d u → CountsAs d.whole (answer_of r) (choice_info w u (option_map (expand_nodes env) taken)) × TellsAuthor w r.shows_author (choice_shows w u author (option_map (expand_nodes env) taken)))
     → AreItemsIfTaken w d (option_map (expand_nodes env) taken) is → IsInfoOfSubstitutes w d (expanded_substitutes_of env x) r is
 around_substitute w d env x taken r is here tells inside =
     around_first w d (expanded_substitutes_of env x) (option_map (expand_nodes env) taken) r is
@@ -342,13 +342,13 @@ module _ (n : NamesNode) (ss : ExpandedSubstitutes) where
     abbrev pub told_by : Bool → Bool → State → Info
     told_by empty void u = if is_refused w.instance.special n empty ss (shown_by empty u) then no_info else names_or_substitute_info void (substitute_info w u ss)
 
-    names_told : (whole : Bool) (s : State) (own : VariableSet) (empty void : Bool) (r : NodeInfo) (is : List PlanItem) → Each (λ v. Has own (variable.Name v)) n.variables → IsWithin own r.read
+    names_told : (whole : Bool) (s : State) (own : VariableSet) (empty void : Bool) (r : NodeInfo) (is : List PlanItem) → Each (λ v. Has own (variable.Name v)) n.variables → IsWithin own r.variables_read
         → empty ≡ all_empty (peeked_lists w s n.variables) → void ≡ writes_no_name n (peeked_lists w s n.variables)
-        → ((u : State) → AreAlikeOn w r.read (state_for_dry_run whole w.instance.special s) u → CountsAs whole (answer_of r) (told_by empty void u) × TellsAuthor w r.shows_author (shown_by empty u))
+        → ((u : State) → AreAlikeOn w r.variables_read (state_for_dry_run whole w.instance.special s) u → CountsAs whole (answer_of r) (told_by empty void u) × TellsAuthor w r.shows_author (shown_by empty u))
         → AreItemsOfSubstitutes w (state_for_dry_run whole w.instance.special s) ss is → IsInfo w (state_for_dry_run whole w.instance.special s) (expanded_names n ss) r is
     names_told whole s own empty void r is has within empties voids tells inside u alike =
         let told = tells u alike in
-        let lists = lists_same w s u own (alike_within w own r.read (state_for_dry_run whole w.instance.special s) u within alike).1 n.variables has in (
+        let lists = lists_same w s u own (alike_within w own r.variables_read (state_for_dry_run whole w.instance.special s) u within alike).1 n.variables has in (
           told.0
               ∙ ap (λ b. counted whole (told_by empty b u)) voids
               ∙ ap (λ b. counted whole (told_by b (writes_no_name n (peeked_lists w s n.variables)) u)) empties
@@ -359,9 +359,9 @@ module _ (n : NamesNode) (ss : ExpandedSubstitutes) where
         )
 
 -- the result for names, by what the dry run finds of their lists, and the result for their substitutes
-pub around_names : (whole : Bool) (w : RenderInput) (s : State) (env : List ℕ → Option ExpandedNodes) (x : Names) (own : VariableSet) (empty void : Bool) (r : NodeInfo) (is : List PlanItem) → Each (λ v. Has own (variable.Name v)) (names_node x).variables → IsWithin own r.read
+pub around_names : (whole : Bool) (w : RenderInput) (s : State) (env : List ℕ → Option ExpandedNodes) (x : Names) (own : VariableSet) (empty void : Bool) (r : NodeInfo) (is : List PlanItem) → Each (λ v. Has own (variable.Name v)) (names_node x).variables → IsWithin own r.variables_read
     → empty ≡ all_empty (peeked_lists w s (names_node x).variables) → void ≡ writes_no_name (names_node x) (peeked_lists w s (names_node x).variables)
-    → ((u : State) → AreAlikeOn w r.read (state_for_dry_run whole w.instance.special s) u
+    → ((u : State) → AreAlikeOn w r.variables_read (state_for_dry_run whole w.instance.special s) u
     → CountsAs whole (answer_of r) (told_by (names_node x) (expanded_substitutes_of env x) w empty void u) × TellsAuthor w r.shows_author (shown_by (names_node x) (expanded_substitutes_of env x) w empty u))
     → AreItemsOfSubstitutes w (state_for_dry_run whole w.instance.special s) (expanded_substitutes_of env x) is → IsInfo w (state_for_dry_run whole w.instance.special s) (expand env (view_names x)) r is
 around_names whole w s env x own empty void r is has within empties voids tells inside =

@@ -92,12 +92,12 @@ module _ (env : List ℕ → Option ExpandedNodes) (original : NamesNode) where
     planned_within : (ns : Nodes) (is : List PlanItem) → AreItems w d (expand_substitute_nodes env original ns) is → AreItems w d (expand_nodes env ns) is
     planned_within no_nodes is h = tt
     planned_within (node n ns) [] h = tt
-    planned_within (node n ns) (i ∷ is) h = (h.0, (within_both i.info (take i.inside is) n).0 h.1, planned_within ns (drop i.inside is) h.2)
+    planned_within (node n ns) (i ∷ is) h = (h.0, (within_both i.info (take i.descendants is) n).0 h.1, planned_within ns (drop i.descendants is) h.2)
 
     asked_within : (ns : Nodes) (is : List PlanItem) → AreItems w d (expand_nodes env ns) is → AreItems w d (expand_substitute_nodes env original ns) is
     asked_within no_nodes is h = tt
     asked_within (node n ns) [] h = tt
-    asked_within (node n ns) (i ∷ is) h = (h.0, (within_both i.info (take i.inside is) n).1 h.1, asked_within ns (drop i.inside is) h.2)
+    asked_within (node n ns) (i ∷ is) h = (h.0, (within_both i.info (take i.descendants is) n).1 h.1, asked_within ns (drop i.descendants is) h.2)
 
     pub planned_by : (ss : Substitutes) (is : List PlanItem) → AreItemsOfSubstitutes w d (expand_substitutes env original ss) is → AreItemsIfTaken w d (option_map (expand_nodes env) (first_substitute ss)) is
     planned_by no_substitutes is h = tt

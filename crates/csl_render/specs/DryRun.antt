@@ -46,7 +46,7 @@ nodes_of style (Place place) = nodes_at style place
 
 -- a result for a text that calls a macro; `d` is what the dry run read of its state
 abbrev pub IsCallInfo : RenderInput → DryView → Option ExpandedNodes → NodeInfo → Type 0
-IsCallInfo w d nodes i = (s : State) → AreAlikeOn w i.read d s → CountsAs d.whole (answer_of i) (call_info w s nodes) × TellsAuthor w i.shows_author (call_shows w s author nodes)
+IsCallInfo w d nodes i = (s : State) → AreAlikeOn w i.variables_read d s → CountsAs d.whole (answer_of i) (call_info w s nodes) × TellsAuthor w i.shows_author (call_shows w s author nodes)
 
 -- each result is that of a text that calls the macro of its name
 abbrev pub HasListed : RenderInput → DryView → List KeptCall → Type 0

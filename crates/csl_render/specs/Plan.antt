@@ -189,9 +189,9 @@ module _ (w : RenderInput) (d : DryView) where
     AreItems no_expanded_nodes is = ⊤
     AreItems (expanded_node f fs) [] = ⊤
     AreItems (expanded_node f fs) (i ∷ is) =
-        (i.inside ≤ length is)
-        × ((s : State) → AreAlikeOn w i.info.read d s → CountsAs d.whole (answer_of i.info) (info w s f) × TellsAuthor w i.info.shows_author (shows w s author f) × AreItemsInside s f (take i.inside is) × TakesBranch w s f i.info.branch)
-        × AreItems fs (drop i.inside is)
+        (i.descendants ≤ length is)
+        × ((s : State) → AreAlikeOn w i.info.variables_read d s → CountsAs d.whole (answer_of i.info) (info w s f) × TellsAuthor w i.info.shows_author (shows w s author f) × AreItemsInside s f (take i.descendants is) × TakesBranch w s f i.info.branch)
+        × AreItems fs (drop i.descendants is)
 
     pub AreItemsOfBranches : State → ExpandedBranches → List PlanItem → Type 0
     AreItemsOfBranches s no_expanded_branches is = ⊤
@@ -209,20 +209,20 @@ module _ (w : RenderInput) (d : DryView) where
 
   -- the result for a node, and the items for the nodes inside it
   abbrev pub IsInfo : ExpandedNode → NodeInfo → List PlanItem → Type 0
-  IsInfo f i is = (s : State) → AreAlikeOn w i.read d s → CountsAs d.whole (answer_of i) (info w s f) × TellsAuthor w i.shows_author (shows w s author f) × AreItemsInside s f is × TakesBranch w s f i.branch
+  IsInfo f i is = (s : State) → AreAlikeOn w i.variables_read d s → CountsAs d.whole (answer_of i) (info w s f) × TellsAuthor w i.shows_author (shows w s author f) × AreItemsInside s f is × TakesBranch w s f i.branch
 
   -- the result for nodes together, and the items for each
   abbrev pub IsInfoOfNodes : ExpandedNodes → NodeInfo → List PlanItem → Type 0
-  IsInfoOfNodes fs i is = ((s : State) → AreAlikeOn w i.read d s → CountsAs d.whole (answer_of i) (nodes_info w s fs) × TellsAuthor w i.shows_author (any_shows w s author fs)) × AreItems fs is
+  IsInfoOfNodes fs i is = ((s : State) → AreAlikeOn w i.variables_read d s → CountsAs d.whole (answer_of i) (nodes_info w s fs) × TellsAuthor w i.shows_author (any_shows w s author fs)) × AreItems fs is
 
   -- the result for children of a substitute together, but for the group flag, and the items for each
   abbrev pub IsInfoOfTried : ExpandedNodes → NodeInfo → List PlanItem → Type 0
   IsInfoOfTried fs i is =
-      ((s : State) → AreAlikeOn w i.read d s → CountsAs d.whole (without_group_flag (answer_of i)) (without_group_flag (nodes_info w s fs)) × TellsAuthor w i.shows_author (any_shows w s author fs)) × AreItems fs is
+      ((s : State) → AreAlikeOn w i.variables_read d s → CountsAs d.whole (without_group_flag (answer_of i)) (without_group_flag (nodes_info w s fs)) × TellsAuthor w i.shows_author (any_shows w s author fs)) × AreItems fs is
 
   -- the result for substitutes, and the items for the children of the first
   abbrev pub IsInfoOfSubstitutes : ExpandedSubstitutes → NodeInfo → List PlanItem → Type 0
-  IsInfoOfSubstitutes ss i is = ((s : State) → AreAlikeOn w i.read d s → CountsAs d.whole (answer_of i) (substitute_info w s ss) × TellsAuthor w i.shows_author (substitute_shows w s author ss)) × AreItemsOfSubstitutes ss is
+  IsInfoOfSubstitutes ss i is = ((s : State) → AreAlikeOn w i.variables_read d s → CountsAs d.whole (answer_of i) (substitute_info w s ss) × TellsAuthor w i.shows_author (substitute_shows w s author ss)) × AreItemsOfSubstitutes ss is
 
 -- ---- plans
 

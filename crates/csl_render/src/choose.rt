@@ -213,7 +213,7 @@ impl Node for Choose {
             Some(nodes) => {
                 let info = nodes_info(nodes, run)?;
                 let flags = info.flags.without_group_flag();
-                let read = tested.union(info.read);
+                let read = tested.union(info.variables_read);
                 Ok(NodeInfo::of_choice(flags, read, branch).with_author(info.shows_author))
             }
             None => Ok(NodeInfo::of_choice(InfoFlags::none(), tested, branch)),

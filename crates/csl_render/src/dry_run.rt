@@ -75,9 +75,9 @@ pub(crate) struct DryRun<'c, 's, T: EntryLike> {
     /// Whether the run is to tell all flags, and not only what groups count.
     whole: bool,
     /// The results for macros, if the style has few.
-    listed: Vec<KeptCall<'s>>,
+    by_name: Vec<KeptCall<'s>>,
     /// The results for macros, if the style has many.
-    mapped: BTreeMap<usize, NodeInfo>,
+    by_place: BTreeMap<usize, NodeInfo>,
     /// The plan so far.
     items: Vec<PlanItem>,
 }
@@ -100,9 +100,9 @@ impl<'c, 's, T: EntryLike> Model for DryRun<'c, 's, T> {
 
     ghost invariant = { λ r.
         HasListed (render_input T.answers r.ctx.now)
-        (state_for_dry_run r.whole r.ctx.now.special r.ctx.now.state) r.listed.items
+        (state_for_dry_run r.whole r.ctx.now.special r.ctx.now.state) r.by_name.items
         × HasInfos (render_input T.answers r.ctx.now)
-        (state_for_dry_run r.whole r.ctx.now.special r.ctx.now.state) r.mapped };
+        (state_for_dry_run r.whole r.ctx.now.special r.ctx.now.state) r.by_place };
 }
 
 impl<'c, 's, T: EntryLike> DryRun<'c, 's, T> {
@@ -127,8 +127,8 @@ impl<'c, 's, T: EntryLike> DryRun<'c, 's, T> {
         DryRun {
             ctx,
             whole,
-            listed: Vec::new(ctx.alloc()),
-            mapped: BTreeMap::new(ctx.alloc()),
+            by_name: Vec::new(ctx.alloc()),
+            by_place: BTreeMap::new(ctx.alloc()),
             items: Vec::new(ctx.alloc()),
         }
     }
@@ -157,22 +157,25 @@ impl<'c, 's, T: EntryLike> DryRun<'c, 's, T> {
         make_room_at(&mut self.items, ROOM_OF_A_PLAN, MORE_ROOM)?;
         let place = self.items.len();
         let info = NodeInfo::new(no_info(), VariableSet::new());
-        self.items.push(PlanItem { info, inside: 0 })?;
+        self.items.push(PlanItem {
+            info,
+            descendants: 0,
+        })?;
         Ok(place)
     }
 
-    /// Puts the result for a node into its place. All items behind are for the nodes inside it.
+    /// Puts the result for a node into its place. The items after it are for the nodes inside it.
     pub(crate) fn close_node(&mut self, place: usize, info: NodeInfo)
         requires { place < length self.old.items }
         ensures { self.new ≡ record {
           now = self.old.now;
           whole = self.old.whole;
           items = set self.old.items place
-              (record { info = info; inside = length self.old.items - place - 1 });
+              (record { info = info; descendants = length self.old.items - place - 1 });
         } }
     {
-        let inside = self.items.len() - place - 1;
-        self.items[place] = PlanItem { info, inside };
+        let descendants = self.items.len() - place - 1;
+        self.items[place] = PlanItem { info, descendants };
     }
 
     /// The plan of a node, from the node's result. All items are for the nodes inside it.
@@ -203,17 +206,17 @@ impl<'c, 's, T: EntryLike> DryRun<'c, 's, T> {
             (dry_of self.now) (nodes_of self.now.now.style key.entry)) }
     {
         match key {
-            CallKey::Name(name) => self.listed_call(name),
-            CallKey::Place(place) => self.mapped_call(place),
+            CallKey::Name(name) => self.call_by_name(name),
+            CallKey::Place(place) => self.call_by_place(place),
         }
     }
 
     /// The result for a text that calls the macro of a name, if the list has it.
-    fn listed_call(&self, name: &str) -> Option<NodeInfo>
+    fn call_by_name(&self, name: &str) -> Option<NodeInfo>
         ensures { IfSome result (IsCallInfo (render_input T.answers self.now.now)
             (dry_of self.now) (macro_env self.now.now.style name.now)) }
     {
-        for call in &self.listed {
+        for call in &self.by_name {
             if call.name == name {
                 return Some(call.info);
             }
@@ -222,12 +225,12 @@ impl<'c, 's, T: EntryLike> DryRun<'c, 's, T> {
     }
 
     /// The result for a text that calls the macro at a place, if the map has it.
-    fn mapped_call(&self, place: Option<usize>) -> Option<NodeInfo>
+    fn call_by_place(&self, place: Option<usize>) -> Option<NodeInfo>
         ensures { IfSome result (IsCallInfo (render_input T.answers self.now.now)
             (dry_of self.now) (nodes_at self.now.now.style place)) }
     {
         let place = place?;
-        self.mapped.get(&place).copied()
+        self.by_place.get(&place).copied()
     }
 
     /// Keeps the result for a text that calls a macro.
@@ -237,30 +240,30 @@ impl<'c, 's, T: EntryLike> DryRun<'c, 's, T> {
         ensures { self.new ≡ self.old }
     {
         match key {
-            CallKey::Name(name) => self.list_call(name, info),
-            CallKey::Place(place) => self.map_call(place, info),
+            CallKey::Name(name) => self.keep_by_name(name, info),
+            CallKey::Place(place) => self.keep_by_place(place, info),
         }
     }
 
     /// Keeps the result for a text that calls the macro of a name in the list.
-    fn list_call(&mut self, name: &'s str, info: NodeInfo) -> Result<(), Memory>
+    fn keep_by_name(&mut self, name: &'s str, info: NodeInfo) -> Result<(), Memory>
         requires { IsCallInfo (render_input T.answers self.old.now) (dry_of self.old)
             (macro_env self.old.now.style name.now) info }
         ensures { self.new ≡ self.old }
     {
-        make_room_at(&mut self.listed, 0, ROOM_FOR_CALLS)?;
-        self.listed.push(KeptCall { name, info })?;
+        make_room_at(&mut self.by_name, 0, ROOM_FOR_CALLS)?;
+        self.by_name.push(KeptCall { name, info })?;
         Ok(())
     }
 
     /// Keeps the result for a text that calls the macro at a place in the map, if there is one.
-    fn map_call(&mut self, place: Option<usize>, info: NodeInfo) -> Result<(), Memory>
+    fn keep_by_place(&mut self, place: Option<usize>, info: NodeInfo) -> Result<(), Memory>
         requires { IsCallInfo (render_input T.answers self.old.now) (dry_of self.old)
             (nodes_at self.old.now.style place) info }
         ensures { self.new ≡ self.old }
     {
         if let Some(place) = place {
-            self.mapped.insert(place, info)?;
+            self.by_place.insert(place, info)?;
         }
         Ok(())
     }

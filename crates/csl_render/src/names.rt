@@ -151,7 +151,7 @@ impl Node for Names {
         let shown = shows_author(ctx, self, summary.is_empty, tried.shows_author);
         let refused = refuses(ctx, self, summary.is_empty, shown);
         let answer = void_info(refused, tried.answer());
-        let read = read.union(tried.read);
+        let read = read.union(tried.variables_read);
         Ok(NodeInfo::new(answer, read).with_author(shown))
     }
 

@@ -26,14 +26,14 @@ pub(crate) struct NodeInfo {
     /// The branch that a choice takes: the number of its branches with conditions before it.
     pub(crate) branch: usize,
     /// The variables that the dry run read. The result holds while the same of them are suppressed.
-    pub(crate) read: VariableSet,
+    pub(crate) variables_read: VariableSet,
 }
 
 impl NodeInfo {
     /// The result for a node that does not show the author, with the variables that were read.
     pub(crate) fn new(answer: (bool, UsageInfo), read: VariableSet) -> NodeInfo
         ensures answer { spec.answer_of result ≡ info_view answer }
-        ensures read { result.read ≡ read }
+        ensures read { result.variables_read ≡ read }
         ensures author { result.shows_author ≡ false }
     {
         NodeInfo::of_choice(InfoFlags::of(answer), read, 0)
@@ -42,7 +42,7 @@ impl NodeInfo {
     /// The result for a choice that takes a branch and does not show the author.
     pub(crate) fn of_choice(flags: InfoFlags, read: VariableSet, branch: usize) -> NodeInfo
         ensures answer { spec.answer_of result ≡ info_of_flags flags }
-        ensures read { result.read ≡ read }
+        ensures read { result.variables_read ≡ read }
         ensures author { result.shows_author ≡ false }
         ensures branch { result.branch ≡ branch }
     {
@@ -50,7 +50,7 @@ impl NodeInfo {
             flags,
             shows_author: false,
             branch,
-            read,
+            variables_read: read,
         }
     }
 
@@ -64,21 +64,21 @@ impl NodeInfo {
     /// The result with other flags.
     pub(crate) fn with_flags(self, flags: InfoFlags) -> NodeInfo
         ensures answer { spec.answer_of result ≡ info_of_flags flags }
-        ensures read { result.read ≡ self.read }
+        ensures read { result.variables_read ≡ self.variables_read }
         ensures author { result.shows_author ≡ self.shows_author }
     {
         NodeInfo {
             flags,
             shows_author: self.shows_author,
             branch: self.branch,
-            read: self.read,
+            variables_read: self.variables_read,
         }
     }
 
     /// The result for a node that shows the author or not.
     pub(crate) fn with_author(self, shows_author: bool) -> NodeInfo
         ensures answer { spec.answer_of result ≡ spec.answer_of self }
-        ensures read { result.read ≡ self.read }
+        ensures read { result.variables_read ≡ self.variables_read }
         ensures author { result.shows_author ≡ shows_author }
         ensures branch { result.branch ≡ self.branch }
     {
@@ -86,7 +86,7 @@ impl NodeInfo {
             flags: self.flags,
             shows_author,
             branch: self.branch,
-            read: self.read,
+            variables_read: self.variables_read,
         }
     }
 
@@ -94,14 +94,15 @@ impl NodeInfo {
     pub(crate) fn with_child(self, child: NodeInfo, is_group: bool) -> NodeInfo
         ensures answer { spec.answer_of result
             ≡ info_union (spec.answer_of self) (as_child_info is_group (spec.answer_of child)) }
-        ensures read { (v : Variable) → has result.read v ≡ (has self.read v || has child.read v) }
+        ensures read { (v : Variable) → has result.variables_read v
+            ≡ (has self.variables_read v || has child.variables_read v) }
         ensures author { result.shows_author ≡ (self.shows_author || child.shows_author) }
     {
         NodeInfo {
             flags: self.flags.with_child(child.flags, is_group),
             shows_author: self.shows_author || child.shows_author,
             branch: 0,
-            read: self.read.union(child.read),
+            variables_read: self.variables_read.union(child.variables_read),
         }
     }
 }
@@ -115,7 +116,7 @@ pub(crate) struct PlanItem {
     /// How many of the next items are for the nodes inside: the children of a group, the nodes of a
     /// macro, the nodes that a choice takes, or the children of the first substitute of names, and
     /// all inside these. They start at the first node and may break off.
-    pub(crate) inside: usize,
+    pub(crate) descendants: usize,
 }
 
 /// The part of a context's state that dry runs read.
@@ -279,9 +280,9 @@ impl<'p> ListPlan<'p> {
             → spec.ArePlans (render_input T.answers ctx.now) fs self.new }
     {
         let (first, rest) = self.items.split_first()?;
-        let (inside, after) = rest.split_at_checked(first.inside)?;
+        let (inside, after) = rest.split_at_checked(first.descendants)?;
         self.items = after;
-        if !self.at.is_alike(first.info.read, ctx) {
+        if !self.at.is_alike(first.info.variables_read, ctx) {
             return None;
         }
         Some(NodePlan {

@@ -32,7 +32,7 @@ pub returns : goal.returns
 returns g c =
     let now = c.args.ctx.now in
     let answers = g.T.EntryLike.answers in
-    let written = c.args.written in
+    let written = c.args.date in
     let found = c.args.found in
     let own = plain_attributes (localized_node written).dressing false in
     let l1 = c.in_ok-element.ensures.after in

@@ -1,7 +1,7 @@
 use Rattle.std.proofs.Common.{map, ap}
 use Rattle.csl_elements.specs.View.{view_date_part}
 use Rattle.csl_nodes.proofs.JoinedParts.{not_localized}
-use Rattle.csl_nodes.proofs.date_parts.LocalizedDate.date_part.Goals as goal
+use Rattle.csl_nodes.proofs.date_parts.LocalizedDate.parts.Goals as goal
 
 pub returns-in-None : goal.returns-in-None
 returns-in-None c =
