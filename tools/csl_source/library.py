@@ -74,7 +74,7 @@ def variants(enum: str) -> dict[str, str]:
     names = read_names().get(enum)
     if names is None:
         arms = re.findall(r"^    (\w+),$", body(f"pub enum {enum} "), re.M)
-        names = {csl_name(it): f"{enum}::{it}" for it in arms}
+        names = {csl_name(arm): f"{enum}::{arm}" for arm in arms}
     for other, usual in OTHER_SPELLINGS.items():
         if variant := names.get(other) or names.get(usual):
             names = names | {other: variant, usual: variant}
@@ -121,6 +121,6 @@ def names() -> str:
     """The text of names.json: all names that a style or a work may use, by their sorts."""
     found = {enum: list(variants(enum)) for enum in NAMED} | {"Language": list(languages())}
     found["Locator"].remove("custom")
-    lines = [f'"{sort}": {json.dumps([it for it in known if not it.startswith("chicago")])}'
+    lines = [f'"{sort}": {json.dumps([name for name in known if not name.startswith("chicago")])}'
              for sort, known in found.items()]
     return "{\n" + ",\n".join(lines) + "\n}\n"

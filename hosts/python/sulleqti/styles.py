@@ -35,7 +35,7 @@ SETTINGS = {"demote-non-dropping-particle": "DemoteNonDroppingParticle",
 def plain(text: str | None) -> str:
     """A text as a comment holds it: on one line, and without characters that have no shape."""
     text = " ".join((text or "").replace("`", "'").split())
-    return "".join(letter for letter in text if unicodedata.category(letter)[0] != "C")
+    return "".join(char for char in text if unicodedata.category(char)[0] != "C")
 
 
 def macros_of(style: Node) -> List[Node]:
