@@ -43,7 +43,7 @@ def names_of(module: str) -> set[str]:
 def faults_of_module(path: str, text: str) -> Iterator[tuple[int, str]]:
     """What is wrong with the way from a module to its definitions, at the end of its head."""
     _, crate, _, module = path.removesuffix(".rt").split("/", 3)
-    head = [line[4:] for line in itertools.takewhile(lambda it: it.startswith("//!"),
+    head = [line[4:] for line in itertools.takewhile(lambda row: row.startswith("//!"),
                                                      text.split("\n"))]
     end = max(len(head), 1)
     cited = set(cited_files(text))

@@ -52,7 +52,8 @@ def lines(left: collections.Counter) -> list[str]:
 
 def seen(left: collections.Counter) -> collections.Counter:
     """What is left out that is seen."""
-    return collections.Counter({name: it for name, it in left.items() if it and name not in UNSEEN})
+    return collections.Counter({name: count for name, count in left.items()
+                                if count and name not in UNSEEN})
 
 
 def summary(left: collections.Counter, faults: list[str]) -> str:

@@ -71,7 +71,7 @@ def variants(enum: str) -> dict[str, str]:
     """The variants of an enum, by the names that its `name` writes, else by their names in CSL."""
     names = read_names().get(enum)
     if names is None:
-        names = {csl_name(it): f"{enum}::{it}" for it, held in arms(enum).items() if not held}
+        names = {csl_name(arm): f"{enum}::{arm}" for arm, held in arms(enum).items() if not held}
     for other, usual in OTHER_SPELLINGS.items():
         if variant := names.get(other) or names.get(usual):
             names = names | {other: variant, usual: variant}
@@ -118,6 +118,6 @@ def names() -> str:
     """The text of names.json: all names that a style or a work may use, by their sorts."""
     found = {enum: list(variants(enum)) for enum in NAMED} | {"Language": list(languages())}
     found["Locator"].remove("custom")
-    lines = [f'"{sort}": {json.dumps([it for it in known if not it.startswith("chicago")])}'
+    lines = [f'"{sort}": {json.dumps([name for name in known if not name.startswith("chicago")])}'
              for sort, known in found.items()]
     return "{\n" + ",\n".join(lines) + "\n}\n"
