@@ -74,7 +74,7 @@ def variants(enum: str) -> dict[str, str]:
     names = read_names().get(enum)
     if names is None:
         arms = re.findall(r"^    (\w+),$", body(f"pub enum {enum} "), re.M)
-        names = {csl_name(arm): f"{enum}::{arm}" for arm in arms}
+        names = {csl_name(it): f"{enum}::{it}" for it in arms}
     for other, usual in OTHER_SPELLINGS.items():
         if variant := names.get(other) or names.get(usual):
             names = names | {other: variant, usual: variant}

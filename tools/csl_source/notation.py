@@ -31,7 +31,7 @@ class Form:
 
     def flat(self) -> str:
         """The list on one line."""
-        parts = (part if isinstance(part, str) else part.flat() for part in self.parts)
+        parts = (it if isinstance(it, str) else it.flat() for it in self.parts)
         return f"({' '.join([self.head, *self.attributes, *parts])})"
 
     def lines(self, indent: int) -> list[str]:

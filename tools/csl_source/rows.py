@@ -42,7 +42,7 @@ class Rows:
     def __init__(self, path: str, locale: str | None = None) -> None:
         self.style = Style(path, [] if locale is None else [locale_of(locale)])
         self.tree, self.left = self.style.tree["style"], self.style.left
-        self.locales = [own for own in self.tree["locales"] if not isinstance(own, str)]
+        self.locales = [it for it in self.tree["locales"] if not isinstance(it, str)]
 
     def file(self) -> str:
         """The text of the file."""
@@ -50,9 +50,9 @@ class Rows:
         about = f"The style “{self.style.title}”. `tools/style --rows` wrote this from {file}."
         lines = comment(about, 0, "#")
         lines += comment(f"Rights: {self.style.rights}", 0, "#") if self.style.rights else []
-        language = [f"default-locale={tag}" for tag in self.tree["locales"] if isinstance(tag, str)]
+        language = [f"default-locale={it}" for it in self.tree["locales"] if isinstance(it, str)]
         lines += ["", *filled("base", language + self.settings(), 2)]
-        locales = [Form("locale", [], parts) for own in self.locales if (parts := self.locale(own))]
+        locales = [Form("locale", [], parts) for it in self.locales if (parts := self.locale(it))]
         for form in [*locales, *self.macros(), *self.layouts(), *self.driver()]:
             lines += form.lines(2)
         return "\n".join(lines) + "\n\n"
@@ -94,8 +94,8 @@ class Rows:
         term = {"term": term_name(tree["term"])} if "term" in tree else {}
         parts = [*self.nodes(tree.get("children", ())),
                  *map(self.date_part, tree.get("date-part", ())),
-                 *(Form(f"name-part {part['name']}", self.attributes(part, LOOK))
-                   for part in tree.get("name-part", ()))]
+                 *(Form(f"name-part {it['name']}", self.attributes(it, LOOK))
+                   for it in tree.get("name-part", ()))]
         return Form(" ".join([name, *([head] if isinstance(head, str) else head)]),
                     self.attributes({**tree, **term}, (*names, *LOOK, "display")), parts)
 
@@ -106,7 +106,7 @@ class Rows:
 
     def branches(self, tree: Tree) -> Iterator[Form]:
         """The branches of a choice."""
-        branches = [("if", tree["if"]), *(("else-if", other) for other in tree.get("else-if", ()))]
+        branches = [("if", tree["if"]), *(("else-if", it) for it in tree.get("else-if", ()))]
         if "else" in tree:
             branches.append(("else", {"children": tree["else"]}))
         for name, branch in branches:
@@ -124,22 +124,21 @@ class Rows:
     def locale(self, tree: Tree) -> list[Form]:
         """The terms and dates of a locale."""
         return [*map(self.term, tree["terms"]),
-                *(Form("date", self.attributes(date, ("form", "delimiter", *LOOK)),
-                       list(map(self.date_part, date.get("date-part", ()))))
-                  for date in tree["dates"])]
+                *(Form("date", self.attributes(it, ("form", "delimiter", *LOOK)),
+                       list(map(self.date_part, it.get("date-part", ())))) for it in tree["dates"])]
 
     def term(self, tree: Tree) -> Form:
         """A term of a locale."""
         name = term_name(tree["name"])
         name = f'"{name}"' if " " in name else name
-        texts = [in_quotes(self.plain(tree[key])) for key in ("single", "multiple") if key in tree]
+        texts = [in_quotes(self.plain(tree[it])) for it in ("single", "multiple") if it in tree]
         return Form(f"term {name}",
                     self.attributes(tree, ("match", "gender-form", "form", "gender")), texts)
 
     def macros(self) -> list[Form]:
         """The macros."""
-        return [Form("macro", self.attributes(macro, ("name",)), self.nodes(macro["children"]))
-                for macro in self.tree["macros"]]
+        return [Form("macro", self.attributes(it, ("name",)), self.nodes(it["children"]))
+                for it in self.tree["macros"]]
 
     def layouts(self) -> Iterator[Form]:
         """The layouts, each with the options of names that it has."""
