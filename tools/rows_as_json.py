@@ -1,4 +1,4 @@
-"""The notation of tests/rows as JSON of docs/WIRE.md: styles, layouts, entries, cites and documents."""
+"""The notation of tests/rows as JSON of docs/WIRE.md: styles, entries, cites and documents."""
 import re
 from typing import Any, Iterable, Iterator, NamedTuple
 
@@ -109,30 +109,30 @@ def attribute(name: str, value: str, lists: Iterable[str] = ()) -> Json:
 
 def attributes(forms: list[Form], lists: Iterable[str] = ()) -> dict[str, Json]:
     """The attributes among forms. The first of a name counts."""
-    return {it.name: attribute(it.name, it.inside, lists) for it in reversed(forms)
-            if it.kind == "attribute"}
+    return {form.name: attribute(form.name, form.inside, lists) for form in reversed(forms)
+            if form.kind == "attribute"}
 
 
 def words(forms: list[Form]) -> list[str]:
     """The words among forms."""
-    return [it.name for it in forms if it.kind == "word"]
+    return [form.name for form in forms if form.kind == "word"]
 
 
 def lists(forms: list[Form]) -> list[Form]:
     """The lists among forms."""
-    return [it for it in forms if it.kind == "list"]
+    return [form for form in forms if form.kind == "list"]
 
 
 def nodes_of(forms: list[Form]) -> list[Json]:
     """The nodes among forms."""
     found: list[Json] = []
-    for it in forms:
-        if it.kind == "word":
-            found.append({"text": {"variable": it.name}})
-        elif it.kind == "text":
-            found.append({"text": {"value": it.name}})
-        elif it.kind == "list":
-            found.append({it.name: node_of(it.name, it.inside)})
+    for form in forms:
+        if form.kind == "word":
+            found.append({"text": {"variable": form.name}})
+        elif form.kind == "text":
+            found.append({"text": {"value": form.name}})
+        elif form.kind == "list":
+            found.append({form.name: node_of(form.name, form.inside)})
     return found
 
 
@@ -151,19 +151,19 @@ def node_of(name: str, forms: list[Form]) -> Json:
         made["children"] = nodes_of(forms)
     elif name == "names":
         made["variable"] = words(forms)
-        made["children"] = [{it.name: child_of(it)} for it in lists(forms)]
+        made["children"] = [{child.name: child_of(child)} for child in lists(forms)]
     return made
 
 
 def choice_of(forms: list[Form]) -> Json:
     """The branches of a choice."""
     made: dict[str, Json] = {}
-    for it in lists(forms):
-        if it.name == "else":
-            made["else"] = nodes_of(it.inside)
+    for form in lists(forms):
+        if form.name == "else":
+            made["else"] = nodes_of(form.inside)
             continue
-        branch = attributes(it.inside, LISTS) | {"children": nodes_of(it.inside)}
-        if it.name == "if":
+        branch = attributes(form.inside, LISTS) | {"children": nodes_of(form.inside)}
+        if form.name == "if":
             made["if"] = branch
         else:
             made.setdefault("else-if", []).append(branch)
@@ -173,11 +173,11 @@ def choice_of(forms: list[Form]) -> Json:
 def date_of(forms: list[Form]) -> dict[str, Json]:
     """The variable and the parts of a date."""
     made: dict[str, Json] = {}
-    for it in forms:
-        if it.kind == "word" and it.name not in ("day", "month", "year"):
-            made["variable"] = it.name
-        elif it.kind in ("word", "list"):
-            part = {"name": it.name} | attributes(it.inside or [])
+    for form in forms:
+        if form.kind == "word" and form.name not in ("day", "month", "year"):
+            made["variable"] = form.name
+        elif form.kind in ("word", "list"):
+            part = {"name": form.name} | attributes(form.inside or [])
             made.setdefault("date-part", []).append(part)
     return made
 
@@ -187,22 +187,23 @@ def child_of(child: Form) -> Json:
     if child.name == "substitute":
         return nodes_of(child.inside)
     made = attributes(child.inside)
-    parts = [{"name": words(it.inside)[0]} | attributes(it.inside) for it in lists(child.inside)]
+    parts = [{"name": words(part.inside)[0]} | attributes(part.inside)
+             for part in lists(child.inside)]
     return made | ({"name-part": parts} if parts else {})
 
 
 def locale_of(forms: list[Form]) -> dict[str, Json]:
     """What a locale has."""
     made: dict[str, Json] = {}
-    for it in forms:
-        if it.name in OF_LOCALE:
-            made.setdefault(it.name, it.inside == "true")
-        elif it.kind == "list" and it.name == "term":
-            name, *texts = [part.name for part in it.inside if part.kind in ("word", "text")]
-            term = {"name": name, "single": texts[0]} | attributes(it.inside)
-            made.setdefault("terms", []).append(term | {"multiple": it for it in texts[1:2]})
-        elif it.kind == "list" and it.name == "date":
-            date = attributes(it.inside) | date_of(it.inside)
+    for form in forms:
+        if form.name in OF_LOCALE:
+            made.setdefault(form.name, form.inside == "true")
+        elif form.kind == "list" and form.name == "term":
+            name, *texts = [part.name for part in form.inside if part.kind in ("word", "text")]
+            term = {"name": name, "single": texts[0]} | attributes(form.inside)
+            made.setdefault("terms", []).append(term | {"multiple": text for text in texts[1:2]})
+        elif form.kind == "list" and form.name == "date":
+            date = attributes(form.inside) | date_of(form.inside)
             if "date-parts" in date:
                 raise NotInWire("a localized date with date-parts")
             made.setdefault("dates", []).append(date)
@@ -215,35 +216,36 @@ def style_of(forms: list[Form]) -> dict[str, Json]:
     language = made.pop("default-locale", None)
     made = {name: value for name, value in made.items() if name not in own}
     locales: list[Json] = [own] if own else []
-    for it in lists(forms):
-        if it.name == "macro":
-            name = attributes(it.inside)["name"]
-            made.setdefault("macros", []).append({"name": name, "children": nodes_of(it.inside)})
-        elif it.name in ("citation", "bibliography"):
+    for form in lists(forms):
+        if form.name == "macro":
+            name = attributes(form.inside)["name"]
+            made.setdefault("macros", []).append({"name": name, "children": nodes_of(form.inside)})
+        elif form.name in ("citation", "bibliography"):
             # (the first of a name counts)
-            made.setdefault(it.name, attributes(it.inside) | {"children": nodes_of(it.inside)})
-        elif it.name == "locale":
-            locales.append(locale_of(it.inside))
+            made.setdefault(form.name,
+                            attributes(form.inside) | {"children": nodes_of(form.inside)})
+        elif form.name == "locale":
+            locales.append(locale_of(form.inside))
     return made | {"locales": locales + ([language] if language else [])}
 
 
 def key_of(forms: list[Form]) -> Json:
     """A key of a sort."""
-    return attributes(forms) | {"variable": it for it in words(forms)[:1]}
+    return attributes(forms) | {"variable": word for word in words(forms)[:1]}
 
 
 def list_style_of(forms: list[Form]) -> dict[str, Json]:
     """A style with its options for documents."""
     made: dict[str, Json] = {"style": style_of(forms)}
     # (the first of a layout counts)
-    for it in reversed(lists(forms)):
-        if it.name not in ("around", "sort"):
+    for form in reversed(lists(forms)):
+        if form.name not in ("around", "sort"):
             continue
-        options = made.setdefault(words(it.inside)[0], {})
-        if it.name == "sort":
-            options["sort"] = [key_of(key.inside) for key in lists(it.inside)]
+        options = made.setdefault(words(form.inside)[0], {})
+        if form.name == "sort":
+            options["sort"] = [key_of(key.inside) for key in lists(form.inside)]
             continue
-        own = attributes(it.inside)
+        own = attributes(form.inside)
         made |= {"class": own.pop(name) for name in ("class",) if name in own}
         names = ("prefix", "suffix", "delimiter")
         options["layout"] = {name: own.pop(name) for name in names if name in own}
@@ -254,17 +256,17 @@ def list_style_of(forms: list[Form]) -> dict[str, Json]:
 def citation_of(forms: list[Form], names: dict[int, str]) -> Json:
     """A citation of a document, of works by their numbers."""
     note = attributes(forms).get("note")
-    items = [item_of(it.inside, names) for it in lists(forms)]
+    items = [item_of(item.inside, names) for item in lists(forms)]
     return {"items": items} | ({} if note is None else {"note-number": note})
 
 
 def item_of(forms: list[Form], names: dict[int, str]) -> Json:
     """A cite of a citation."""
     made = attributes(forms) | {"work": names.get(int(words(forms)[0]), "none")}
-    for it in lists(forms):
-        if it.name != "locator":
+    for form in lists(forms):
+        if form.name != "locator":
             raise NotInWire("a tree around a cite")
-        made["locator"] = locator_of(it.inside)
+        made["locator"] = locator_of(form.inside)
     return made
 
 
@@ -281,14 +283,14 @@ def person_of(form: Form) -> Json:
 
 def pieces_of(forms: list[Form]) -> Json:
     """A text, or its pieces."""
-    pieces = [it.name if it.kind == "text" else {it.name: it.inside[0].name}
-              for it in forms if it.kind in ("text", "list")]
+    pieces = [form.name if form.kind == "text" else {form.name: form.inside[0].name}
+              for form in forms if form.kind in ("text", "list")]
     return pieces[0] if len(pieces) == 1 and isinstance(pieces[0], str) else pieces
 
 
 def text_value(forms: list[Form]) -> Json:
     """The answer of a standard variable."""
-    made, rest = attributes(forms), [it for it in forms if it.kind != "attribute"]
+    made, rest = attributes(forms), [form for form in forms if form.kind != "attribute"]
     if not set(made) <= {"short"}:
         raise NotInWire("a text that is no text alone")
     if not made:
@@ -315,7 +317,7 @@ def number_value(forms: list[Form]) -> Json:
         if re.search("[0-9]", forms[0].name):
             raise NotInWire("a text that may be a number, and is none")
         return forms[0].name
-    return " ".join(it.name for it in forms)
+    return " ".join(form.name for form in forms)
 
 
 def entry_of(forms: list[Form], sorts: dict[str, set[str]]) -> Json:
@@ -325,29 +327,30 @@ def entry_of(forms: list[Form], sorts: dict[str, set[str]]) -> Json:
         raise NotInWire(f"an entry with {sorted(made)}")
     english = {"english": made["english"]} if "english" in made else {}
     variables: dict[str, Json] = {}
-    for it in lists(forms):
-        if it.name in sorts["name"]:
-            variables[it.name] = [person_of(person) for person in it.inside]
-        elif it.name in sorts["date"]:
-            variables[it.name] = date_value(it.inside)
-        elif it.name in sorts["standard"]:
-            variables[it.name] = text_value(it.inside)
+    for form in lists(forms):
+        if form.name in sorts["name"]:
+            variables[form.name] = [person_of(person) for person in form.inside]
+        elif form.name in sorts["date"]:
+            variables[form.name] = date_value(form.inside)
+        elif form.name in sorts["standard"]:
+            variables[form.name] = text_value(form.inside)
         else:
-            variables[it.name] = number_value(it.inside)
+            variables[form.name] = number_value(form.inside)
     return {"type": made.get("type", "").split(), **english, "variables": variables}
 
 
 def shown_of(forms: list[Form]) -> Json:
     """The forms of names of a cite."""
     made = attributes(forms)
-    names = [[None if it == "none" else it for it in words(one.inside)] for one in lists(forms)]
+    names = [[None if word == "none" else word for word in words(one.inside)]
+             for one in lists(forms)]
     return {"default": made["default"], "variable": made.get("of", "").split(), "lists": names}
 
 
 def locator_of(forms: list[Form]) -> Json:
     """A locator. Without a text, the caller writes it."""
-    texts = [it.name for it in forms if it.kind == "text"]
-    return {"label": words(forms)[0]} | {"value": it for it in texts}
+    texts = [form.name for form in forms if form.kind == "text"]
+    return {"label": words(forms)[0]} | {"value": text for text in texts}
 
 
 def cite_of(forms: list[Form]) -> Json:
@@ -362,11 +365,11 @@ def cite_of(forms: list[Form]) -> Json:
         made["position"] = ibid
     if "year-suffix" in made:
         made["year-suffix"] = letters_of(int(made["year-suffix"]))
-    for it in lists(forms):
-        if it.name == "locator":
-            made["locator"] = locator_of(it.inside)
-        elif it.name == "shown":
-            made["names"] = shown_of(it.inside)
+    for form in lists(forms):
+        if form.name == "locator":
+            made["locator"] = locator_of(form.inside)
+        elif form.name == "shown":
+            made["names"] = shown_of(form.inside)
     return made
 
 
@@ -375,14 +378,14 @@ def reaches_suffix(nodes: Json, macros: dict[str, Json]) -> bool:
     if isinstance(nodes, dict):
         called = macros.get(nodes.get("macro", ""), [])
         return (nodes.get("variable") == "year-suffix" or reaches_suffix(called, macros)
-                or any(reaches_suffix(it, macros) for it in nodes.values()))
-    return isinstance(nodes, list) and any(reaches_suffix(it, macros) for it in nodes)
+                or any(reaches_suffix(node, macros) for node in nodes.values()))
+    return isinstance(nodes, list) and any(reaches_suffix(node, macros) for node in nodes)
 
 
 def with_layout(style: Json, scope: str, layout: Json, cite: Json) -> Json:
     """A style whose layout of the scope is this one. A row's layout is none of its style's, so that
     those decide whether the first year has the suffix."""
-    macros = {it["name"]: it["children"] for it in style.get("macros", [])}
+    macros = {macro["name"]: macro["children"] for macro in style.get("macros", [])}
     before = style.get(scope, {})
     if "year-suffix" in cite and \
             reaches_suffix(layout, macros) != reaches_suffix(before, macros):

@@ -34,7 +34,7 @@ def metadata() -> str:
     project = dict(re.findall('^([a-z-]+) = "(.*)"$', read(f"{PACKAGE}/pyproject.toml"), re.M))
     names = {"Name": "name", "Version": "version", "Summary": "description",
              "Requires-Python": "requires-python"}
-    lines = ["Metadata-Version: 2.1", *(f"{name}: {project[it]}" for name, it in names.items()),
+    lines = ["Metadata-Version: 2.1", *(f"{name}: {project[key]}" for name, key in names.items()),
              "Description-Content-Type: text/markdown", "", read(f"{PACKAGE}/README.md")]
     return "\n".join(lines)
 
@@ -51,15 +51,15 @@ def write_wheel(folder: str, program: str, facts: str) -> str:
     tag, info = tag_of(served), f"sulleqti-{version}.dist-info"
     wheel = f"Wheel-Version: 1.0\nGenerator: tools/release\nRoot-Is-Purelib: false\nTag: {tag}\n"
     files |= {f"{info}/METADATA": metadata().encode(), f"{info}/WHEEL": wheel.encode()}
-    record = [f"{name},sha256={sum_of(it)},{len(it)}\n" for name, it in files.items()]
+    record = [f"{name},sha256={sum_of(data)},{len(data)}\n" for name, data in files.items()]
     files[f"{info}/RECORD"] = "".join([*record, f"{info}/RECORD,,\n"]).encode()
     path = f"{folder}/sulleqti-{version}-{tag}.whl"
     with zipfile.ZipFile(path, "w", zipfile.ZIP_DEFLATED) as made:
-        for name, it in files.items():
+        for name, content in files.items():
             # (its date is always the same, so the same files make the same wheel)
             entry = zipfile.ZipInfo(name)
             entry.external_attr = (0o100755 if name.endswith("/csl_serve") else 0o100644) << 16
-            made.writestr(entry, it, zipfile.ZIP_DEFLATED)
+            made.writestr(entry, content, zipfile.ZIP_DEFLATED)
     return path
 
 

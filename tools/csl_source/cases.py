@@ -1,4 +1,4 @@
-"""The text cases of a style: as marks in affixes, which `csl_finish` takes for them, or left out."""
+"""The text cases of a style: as marks in affixes, which `csl_finish` takes, or left out."""
 from typing import Any
 
 from sulleqti.document import RESERVED
@@ -11,13 +11,13 @@ MARK = RESERVED
 
 
 def marked(value: Any) -> Any:
-    """A value of JSON with the marks of its cases: the prefix of a node ends with one, and the suffix
-    begins with the other."""
+    """A value of JSON with the marks of its cases: the prefix of a node ends with one, and the
+    suffix begins with the other."""
     if isinstance(value, list):
-        return [marked(it) for it in value]
+        return [marked(part) for part in value]
     if not isinstance(value, dict):
         return value
-    found = {name: marked(it) for name, it in value.items() if name != "text-case"}
+    found = {name: marked(part) for name, part in value.items() if name != "text-case"}
     if "text-case" in value:
         start = MARKS[value["text-case"]]
         found["prefix"] = found.get("prefix", "") + start

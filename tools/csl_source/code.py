@@ -51,7 +51,7 @@ def comment(text: str, indent: int, mark: str = "///") -> list[str]:
 def snake(text: str, instead: str) -> str:
     """A text as a name of a variable or a function. `instead` is the name of a text without
     letters."""
-    plain = "".join(it if it.isascii() and it.isalnum() else " " for it in text.lower())
+    plain = "".join(char if char.isascii() and char.isalnum() else " " for char in text.lower())
     name = "_".join(plain.split())[:30].strip("_")
     name = name if name[:1].isalpha() else f"{instead}_{name}" if name else instead
     return name + "_" if name in KEYWORDS else name

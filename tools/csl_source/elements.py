@@ -129,7 +129,7 @@ class Elements:
         items: list[Expression] = [part.value() for part in parts]
         calls: dict[int, str] = {}
         lines = sum(sizes)
-        for place in sorted(range(len(parts)), key=lambda it: -sizes[it]):
+        for place in sorted(range(len(parts)), key=lambda index: -sizes[index]):
             if lines <= most or sizes[place] <= 2:
                 break
             calls[place], lines = self.outlined(parts[place]), lines - sizes[place]
@@ -163,7 +163,7 @@ class Elements:
 
     def text(self, tree: Tree) -> Part:
         """A text."""
-        target = next(it for it in TARGETS if it in tree)
+        target = next(name for name in TARGETS if name in tree)
         word = snake("", "value") if target == "value" else snake(tree[target], "text")
         fields = [("quotes", flag(tree, "quotes")), ("strip_periods", flag(tree, "strip-periods"))]
         return self.dressed(tree, self.printed(target, tree), fields, [], word)
@@ -221,7 +221,7 @@ class Elements:
         """The steps that build the list of a date's parts, and the list."""
         if "date-part" not in tree:
             return [], "Vec::new(alloc)"
-        steps = [self.date_part(it) for it in tree["date-part"]]
+        steps = [self.date_part(part) for part in tree["date-part"]]
         parts = Local("parts")
         return [*steps, (parts, Vector([local for local, _ in steps]))], parts
 
@@ -238,8 +238,8 @@ class Elements:
 
     def names_name(self, tree: Tree) -> Part:
         """How names are written: the child `name` of `names`."""
-        steps = [self.name_part(it) for it in tree.get("name-part", ())]
-        own = {f"name-{it}": tree[it] for it in ("form", "delimiter") if it in tree}
+        steps = [self.name_part(part) for part in tree.get("name-part", ())]
+        own = {f"name-{name}": tree[name] for name in ("form", "delimiter") if name in tree}
         fields: Fields = [("options", name_options({**tree, **own})),
                           ("formatting", formatting(tree)),
                           ("parts", Vector([local for local, _ in steps]) if steps else None)]
@@ -271,14 +271,14 @@ class Elements:
 
     def names(self, tree: Tree) -> Part:
         """Names."""
-        steps, items = self.gathered([self.part(it, "names_") for it in tree["children"]])
+        steps, items = self.gathered([self.part(child, "names_") for child in tree["children"]])
         children, persons = Local("children"), Local("persons")
         if items:
             steps.append((children, Vector(items)))
         fields = [("children", children if items else None),
                   *fields_of(tree, {"delimiter": "text"})]
         known = library.variants("NameVariable")
-        steps.append((persons, Vector([known[it] for it in tree["variable"]])))
+        steps.append((persons, Vector([known[name] for name in tree["variable"]])))
         made = Call("Names::new", "alloc", persons)
         return self.dressed(tree, made, fields, steps, snake(tree["variable"][0], "names"))
 
@@ -297,8 +297,8 @@ class Elements:
         if value is True:
             return "true"
         sort = TESTS[name].rstrip("*")
-        return Vector([any_variable(it) if sort == "Variable" else library.variants(sort)[it]
-                       for it in value])
+        return Vector([any_variable(word) if sort == "Variable" else library.variants(sort)[word]
+                       for word in value])
 
     def branch(self, tree: Tree) -> Part:
         """A branch of a choice that has tests."""
@@ -316,7 +316,7 @@ class Elements:
 
     def choose(self, tree: Tree) -> Part:
         """A choice."""
-        branches = [self.branch(it) for it in [tree["if"], *tree.get("else-if", ())]]
+        branches = [self.branch(branch) for branch in [tree["if"], *tree.get("else-if", ())]]
         rest = [self.otherwise(tree["else"])] if "else" in tree else []
         steps, items = self.gathered([*branches, *rest])
         others = items[1:len(branches)]

@@ -27,11 +27,11 @@ def options(name: str, tree: Tree) -> Fields:
     """The options of a citation or of a bibliography, with the texts around its layout."""
     layout = tree["layout"]
     # (the bibliography has no delimiter)
-    texts = [it for it in TEXTS if layout.get(it)]
-    keys = [("keys", Vector([key(it) for it in tree["sort"]]))] if tree["sort"] else []
-    return [*((it, string(layout[it])) for it in texts), *keys,
-            *((FIELDS.get(it, it.replace("-", "_")), option(tree, it, sort))
-              for it, sort in LISTED[name].items() if not it.endswith("substitute-rule"))]
+    texts = [text for text in TEXTS if layout.get(text)]
+    keys = [("keys", Vector([key(key_tree) for key_tree in tree["sort"]]))] if tree["sort"] else []
+    return [*((text, string(layout[text])) for text in texts), *keys,
+            *((FIELDS.get(field, field.replace("-", "_")), option(tree, field, sort))
+              for field, sort in LISTED[name].items() if not field.endswith("substitute-rule"))]
 
 
 def key(tree: Tree) -> Expression:

@@ -172,14 +172,14 @@ class Table:
             slot = f"OrdinalSlot::{'Long' if long else 'Two'}({int(number)})"
         sorts = {"match": "OrdinalMatch", "gender-form": "GrammarGender"}
         options = dict(fields_of(tree, sorts))
-        optional = [options.get(it, "None") for it in ("match", "gender_form")]
+        optional = [options.get(name, "None") for name in ("match", "gender_form")]
         self.ordinals.append(Row([slot, *optional, quoted(tree["single"])]))
 
     def term(self, tree: Tree) -> None:
         """Reads a term. The first of a name and a form counts."""
         form = given(tree, "form", "TermForm", "long") or "TermForm::Long"
         gender = given(tree, "gender", "GrammarGender")
-        texts = [quoted(tree[it]) for it in ("single", "multiple") if it in tree]
+        texts = [quoted(tree[key]) for key in ("single", "multiple") if key in tree]
         # (one term of a file may be of a variable and of a locator)
         for term in library.terms()[tree["name"].removeprefix("locator:")]:
             if (term, form) not in self.seen:

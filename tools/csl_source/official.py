@@ -51,7 +51,7 @@ class Seen(html.parser.HTMLParser):
 
     def handle_data(self, data: str) -> None:
         """Adds the letters. Of white space the look is not seen."""
-        look = {name: it for name, it in self.within[-1][1].items() if it not in NO_LOOK}
+        look = {name: value for name, value in self.within[-1][1].items() if value not in NO_LOOK}
         letters = data.lstrip()
         if look != self.look and letters:
             self.look = look
@@ -73,14 +73,15 @@ class Test(NamedTuple):
 def document(sections: dict[str, str], works: list[dict[str, Any]]) -> list[tuple[Any, int | None]]:
     """The citations of a test, in the order of the document. Without any, all works are cited."""
     if "CITATIONS" not in sections:
-        alone = [{"id": it} for it in dict.fromkeys(it.get("id") for it in works)]
-        return [(it, None) for it in json.loads(sections.get("CITATION-ITEMS", "0")) or [alone]]
+        alone = [{"id": name} for name in dict.fromkeys(work.get("id") for work in works)]
+        return [(items, None)
+                for items in json.loads(sections.get("CITATION-ITEMS", "0")) or [alone]]
     # (each is put between those that are there already; the last has all around it)
     steps = json.loads(sections["CITATIONS"])
-    cites = {it["citationID"]: it["citationItems"] for it, _, _ in steps}
+    cites = {citation["citationID"]: citation["citationItems"] for citation, _, _ in steps}
     last, before, after = steps[-1]
     note = last.get("properties", {}).get("noteIndex", 0)
-    return [(cites[name], it) for name, it in [*before, (last["citationID"], note), *after]]
+    return [(cites[name], number) for name, number in [*before, (last["citationID"], note), *after]]
 
 
 def lines_of(result: str, is_list: bool, count: int) -> list[str]:
@@ -88,10 +89,10 @@ def lines_of(result: str, is_list: bool, count: int) -> list[str]:
     if is_list:
         # (after the last one the element around all ends too)
         lines = result[:result.rindex("</div>")].split('<div class="csl-entry">')[1:]
-        return [re.sub(r"</div>\s*$", "", it) for it in lines]
+        return [re.sub(r"</div>\s*$", "", line) for line in lines]
     # (one citation may be several lines)
     lines = [result] if count == 1 else result.strip("\n").split("\n")
-    return [re.sub(r"^[>.]+\[\d+\] ?", "", it) for it in lines]
+    return [re.sub(r"^[>.]+\[\d+\] ?", "", line) for line in lines]
 
 
 def test_of(path: str) -> Test:
@@ -100,9 +101,9 @@ def test_of(path: str) -> Test:
     works, is_list = json.loads(sections["INPUT"]), sections["MODE"].strip() == "bibliography"
     cites = document(sections, works)
     if "CITATIONS" in sections:
-        ids = {it["id"] for items, _ in cites for it in items}
-        works = [it for it in works if it["id"] in ids]
+        ids = {cite["id"] for items, _ in cites for cite in items}
+        works = [work for work in works if work["id"] in ids]
     lines = lines_of(sections["RESULT"].replace(NOTHING, ""), is_list, len(cites))
     name = os.path.basename(path).removesuffix(".txt")
-    wanted = [Seen(it).text for it in lines]
+    wanted = [Seen(line).text for line in lines]
     return Test(name, sections["CSL"].strip(), works, cites, is_list, wanted)

@@ -71,11 +71,11 @@ def page(style: Style, cited: list[tuple[str, str]], done: RenderedDocument) -> 
     """The page of these citations, each with a name, and of the bibliography of a document. It
     shows no space that is larger than ten lines."""
     body = "<h2>Cites</h2>\n" if cited else ""
-    body += "".join(f"<p>{f'<b>{html.escape(name)}</b>: ' if name else ''}{it}</p>\n"
-                    for name, it in cited)
+    body += "".join(f"<p>{f'<b>{html.escape(name)}</b>: ' if name else ''}{cite}</p>\n"
+                    for name, cite in cited)
     body += "<h2>References</h2>\n" if done.bibliography else ""
-    body += "".join(entry(it, done.looks["hanging-indent"]) for it in done.bibliography)
-    widths = [len(html.unescape(re.sub("<[^>]*>", "", first_of(it)))) for it in done.bibliography]
+    body += "".join(entry(row, done.looks["hanging-indent"]) for row in done.bibliography)
+    widths = [len(html.unescape(re.sub("<[^>]*>", "", first_of(row)))) for row in done.bibliography]
     spaces = {name: min(done.looks.get(name, 1), 10) for name in ("entry-spacing", "line-spacing")}
     title = style.title or os.path.basename(style.path)
     text = PAGE.format(

@@ -26,7 +26,7 @@ class StyleFile:
             self.tree = cases.marked(self.tree)
         else:
             style.left["`text-case`"] += style.elements.cases
-        own = ["style", "style_settings", "list_style", *(f"{it}_options" for it in LAYOUTS)]
+        own = ["style", "style_settings", "list_style", *(f"{name}_options" for name in LAYOUTS)]
         taken = dict.fromkeys([*own, *HELPERS], 2)
         self.elements = Elements(taken, self.indent)
         self.locales = Locales(self.elements)
@@ -35,7 +35,7 @@ class StyleFile:
         """The text of the file, or of the module."""
         settings = self.settings()
         layouts = [self.layout(name) for name in LAYOUTS]
-        added = self.macro_lists([self.macro(it) for it in self.tree["macros"]])
+        added = self.macro_lists([self.macro(macro) for macro in self.tree["macros"]])
         names = [name for name, _ in added]
         main = self.main(bool(settings), names, layouts, self.locale_calls())
         is_english = not self.has_cases or self.style.language.lower().startswith("en")
@@ -55,7 +55,7 @@ class StyleFile:
 
     def head(self) -> list[str]:
         """What the file is, how it is made, and the style's rights."""
-        words = [self.style.path, *(word for it in self.names for word in ("--locale", it))]
+        words = [self.style.path, *(word for locale in self.names for word in ("--locale", locale))]
         words = [plain(os.path.basename(word)) for word in words]
         words += ["--module", self.module] if self.module else []
         words += ["--text-case"] if self.has_cases else []
@@ -89,7 +89,8 @@ class StyleFile:
                                                    "DemoteNonDroppingParticle")),
             ("initialize_with_hyphen", given(tree, "initialize-with-hyphen", "flag"))]
         steps: list[Step] = []
-        for name, owner in [("names", tree), *((f"{it}_names", tree.get(it, {})) for it in LAYOUTS)]:
+        owners = {"names": tree, **{f"{name}_names": tree.get(name, {}) for name in LAYOUTS}}
+        for name, owner in owners.items():
             options = name_options(owner)
             if options is not None:
                 local = Local(name)

@@ -46,8 +46,8 @@ class Attributes:
 
     def is_split(self) -> bool:
         """Whether the element has both formatting and affixes."""
-        has_affixes = any(self.rest.get(it) for it in AFFIXES)
-        return has_affixes and any(it in self.rest for it in FORMATTING)
+        has_affixes = any(self.rest.get(name) for name in AFFIXES)
+        return has_affixes and any(name in self.rest for name in FORMATTING)
 
     def taken(self, sorts: Sorts, needed: str | None = None) -> Tree:
         """Those of these attributes that the element has. It must have the needed one."""

@@ -34,7 +34,7 @@ def cite(value: Any, mode: str) -> Tree:
     found = {"id": cleaned(str(value["id"]))}
     found.update({name: MARKUP.sub("", on_one_line(str(value[name])))
                   for name in ("prefix", "suffix") if value.get(name)})
-    purpose = next((it for name, it in PURPOSES.items() if value.get(name)), MODES.get(mode))
+    purpose = next((word for name, word in PURPOSES.items() if value.get(name)), MODES.get(mode))
     if purpose:
         found["purpose"] = purpose
     if value.get("locator"):
@@ -53,8 +53,8 @@ def citation(value: Any) -> Citation:
         raise Wrong('a citation is a list of cites, or an object with one in "citationItems"')
     mode, note = how.get("mode", ""), how.get("noteIndex")
     # (only the first author of several cites is in the text)
-    cites = [cite(it, "" if mode == "composite" and place else mode)
-             for place, it in enumerate(items)]
+    cites = [cite(item, "" if mode == "composite" and place else mode)
+             for place, item in enumerate(items)]
     return Citation(cites, note if isinstance(note, int) and note > 0 else None)
 
 
@@ -68,8 +68,8 @@ def values_of(path: str) -> Any:
 
 def citations_of(given: Union[str, Sequence[Any]], ids: Container[str]
                  ) -> Tuple[List[Citation], List[str]]:
-    """The citations of a file, or of a list, of works of these `ids`, and a line for each thing that
-    is wrong. A citation that is wrong is left out, and so is a cite of another work."""
+    """The citations of a file, or of a list, of works of these `ids`, and a line for each thing
+    that is wrong. A citation that is wrong is left out, and so is a cite of another work."""
     is_file = isinstance(given, str)
     values, begin = values_of(given) if is_file else given, f"{given}: " if is_file else ""
     if not isinstance(values, list):
@@ -79,9 +79,9 @@ def citations_of(given: Union[str, Sequence[Any]], ids: Container[str]
         place = f"{begin}citation {number}"
         try:
             whole = citation(value)
-            found.append(Citation([it for it in whole.cites if it["id"] in ids], whole.note))
-            faults += [f"{place}: there is no work {named(it['id'])}"
-                       for it in whole.cites if it["id"] not in ids]
+            found.append(Citation([item for item in whole.cites if item["id"] in ids], whole.note))
+            faults += [f"{place}: there is no work {named(item['id'])}"
+                       for item in whole.cites if item["id"] not in ids]
         except Wrong as why:
             faults.append(f"{place}: {why}")
     return found, faults

@@ -3,7 +3,7 @@ from __future__ import annotations
 
 from typing import Any, Counter, Dict, List, NamedTuple, Sequence
 
-from sulleqti.attributes import AFFIXES, FORMATTING, NAME_OPTIONS, Attributes, Tree
+from sulleqti.attributes import AFFIXES, NAME_OPTIONS, Attributes, Tree
 from sulleqti.document import Node
 from sulleqti.names import OTHER_SPELLINGS, TERMS
 
@@ -45,8 +45,8 @@ class Elements:
 
     def nodes(self, parent: Node, scope: Scope = Scope()) -> List[Tree]:
         """The nodes right inside of an element, without those that the library leaves out."""
-        found = [self.node(it, scope) for it in parent]
-        return [it for it in found if it is not None]
+        found = [self.node(child, scope) for child in parent]
+        return [node for node in found if node is not None]
 
     def node(self, node: Node, scope: Scope) -> Tree | None:
         """An element, or `None` if the library leaves it out."""
@@ -85,7 +85,7 @@ class Elements:
 
     def text(self, given: Attributes, _: Scope) -> Tree | None:
         """A text, or `None` if the library does not name its term."""
-        targets = [it for it in TARGETS if it in given.rest]
+        targets = [target for target in TARGETS if target in given.rest]
         if len(targets) != 1:
             given.node.refuse("`text` needs one of the attributes `variable`, `macro`, `term`, "
                               "`value`")
@@ -156,8 +156,8 @@ class Elements:
         # (of each sort the first, since no other counts)
         first = {name: child for _, child in reversed(own) for name in child}
         handed = [child for _, child in own if any(first[name] is child for name in child)]
-        children = [child or self.substitute(it, Scope(handed, is_direct=True))
-                    for it, child in own]
+        children = [child or self.substitute(element, Scope(handed, is_direct=True))
+                    for element, child in own]
         is_direct = scope.is_direct and not given.is_split()
         value["children"] = children or ([] if is_direct else list(scope.around))
         return self.dressed(given, value, *inside)

@@ -20,23 +20,23 @@ MOST_COPIED = 10_000
 def nodes_in(value: Any) -> Iterator[Tuple[str, Tree]]:
     """The objects in a value, each with the name of its member."""
     if isinstance(value, list):
-        for it in value:
-            yield from nodes_in(it)
+        for part in value:
+            yield from nodes_in(part)
     elif isinstance(value, dict):
-        for name, it in value.items():
-            if isinstance(it, dict):
-                yield name, it
-            yield from nodes_in(it)
+        for name, part in value.items():
+            if isinstance(part, dict):
+                yield name, part
+            yield from nodes_in(part)
 
 
 def calls_in(macro: Tree) -> Iterator[Tree]:
     """The texts in a macro that call a macro."""
-    return (it for name, it in nodes_in(macro) if name == "text" and "macro" in it)
+    return (text for name, text in nodes_in(macro) if name == "text" and "macro" in text)
 
 
 def with_names(macros: Dict[str, Tree]) -> Set[str]:
     """The macros that write names, themselves or by those that they call."""
-    calls = {name: {it["macro"] for it in calls_in(macro)} for name, macro in macros.items()}
+    calls = {name: {call["macro"] for call in calls_in(macro)} for name, macro in macros.items()}
     more = {name for name, macro in macros.items() if "names" in dict(nodes_in(macro))}
     found: Set[str] = set()
     while more:
@@ -49,15 +49,15 @@ def limit(value: Any, limits: Tree, is_direct: bool = False) -> None:
     """Sets the limits of all names in a value. Names without children right in a substitute take
     those of the names around them."""
     if isinstance(value, list):
-        for it in value:
-            limit(it, limits, is_direct)
+        for part in value:
+            limit(part, limits, is_direct)
     elif isinstance(value, dict):
-        for name, it in value.items():
-            if name == "names" and (it["children"] or not is_direct):
-                if not any("name" in child for child in it["children"]):
-                    it["children"].insert(0, {"name": {}})
-                next(child for child in it["children"] if "name" in child)["name"].update(limits)
-            limit(it, limits, name == "substitute")
+        for name, part in value.items():
+            if name == "names" and (part["children"] or not is_direct):
+                if not any("name" in child for child in part["children"]):
+                    part["children"].insert(0, {"name": {}})
+                next(child for child in part["children"] if "name" in child)["name"].update(limits)
+            limit(part, limits, name == "substitute")
 
 
 class KeyMacros:
@@ -65,7 +65,7 @@ class KeyMacros:
 
     def __init__(self, macros: List[Tree], elements: Elements) -> None:
         self.list, self.places, self.copied = macros, elements.places, 0
-        self.macros = {it["name"]: it for it in macros}
+        self.macros = {macro["name"]: macro for macro in macros}
         self.named = with_names(self.macros)
         self.known: Dict[Tuple[str, str], str] = {}
 
@@ -103,7 +103,7 @@ class KeyMacros:
                 if name not in names and name in self.named:
                     names[name] = self.new_name(name)
                     copies.append(self.copy_of(self.macros[name], names[name]))
-                    rest += [it["macro"] for it in calls_in(self.macros[name])]
+                    rest += [text["macro"] for text in calls_in(self.macros[name])]
             for made in copies:
                 limit(made, limits)
                 for call in calls_in(made):

@@ -4,7 +4,7 @@ from __future__ import annotations
 
 import os
 import re
-from typing import Iterator, List, Set, Tuple, Union
+from typing import Iterator, List, Set, Union
 
 from sulleqti.attributes import AFFIXES, Attributes, Tree
 from sulleqti.document import LANGUAGE, Node, Refused, document
@@ -23,7 +23,7 @@ def built_in(word: str) -> str | None:
     """The tag of the library's language that is named as in `en-US` or `en`, or `None`."""
     known = {language.lower(): language for language in NAMES["Language"]}
     # (without a region, the first language: `en` is `en-US`)
-    known = {name.split("-")[0]: it for name, it in reversed(list(known.items()))} | known
+    known = {name.split("-")[0]: tag for name, tag in reversed(list(known.items()))} | known
     return known.get(word.lower())
 
 
@@ -49,8 +49,8 @@ def in_order(own: List[Node], locale: Locale) -> List[Node]:
     """Those of a style's own locales that count for the language of another locale: for its region,
     for its language and for all."""
     name = language_of(locale).lower()
-    return [it for wanted in dict.fromkeys((name, name.split("-")[0], ""))
-            for it in own if language_of(it).lower() == wanted]
+    return [node for wanted in dict.fromkeys((name, name.split("-")[0], ""))
+            for node in own if language_of(node).lower() == wanted]
 
 
 class Locales:
@@ -68,8 +68,8 @@ class Locales:
         given = Attributes(locale, self.left)
         given.taken({LANGUAGE: "text", "version": "text"})
         given.end(("info", "translator", "style-options", "terms", "date"))
-        terms = [it for node in locale.below("terms") for it in self.terms(node)]
-        value = {"terms": terms, "dates": [self.date(it) for it in locale.below("date")]}
+        terms = [term for node in locale.below("terms") for term in self.terms(node)]
+        value = {"terms": terms, "dates": [self.date(date) for date in locale.below("date")]}
         for node in locale.below("style-options"):
             given = Attributes(node, self.left)
             # (the first that sets one counts)
@@ -116,7 +116,7 @@ class Locales:
         names = [name] if name in OTHER_TERMS else []
         if name in NAMES["Locator"]:
             names.append(f"locator:{name}" if names else name)
-        return [{"name": OTHER_SPELLINGS.get(it, it), **found} for it in names]
+        return [{"name": OTHER_SPELLINGS.get(term, term), **found} for term in names]
 
     def date(self, node: Node) -> Tree:
         """A localized date."""

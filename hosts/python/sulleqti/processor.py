@@ -192,8 +192,8 @@ class Works:
         """Keeps works. One that is refused is told and left out. A work without a language is in
         that of the style."""
         is_english = self.style.source.language.lower().startswith("en")
-        sent = [{"name": self.prefix + it.id, "work": {"english": is_english, **it.tree}}
-                for it in works]
+        sent = [{"name": self.prefix + item.id, "work": {"english": is_english, **item.tree}}
+                for item in works]
         for work, reply in zip(works, self.style.processor.ask("works", works=sent)):
             try:
                 answer_of(reply)
@@ -209,7 +209,7 @@ class Works:
 
     def drop(self) -> None:
         """Forgets the works."""
-        self.style.processor.ask("drop", works=[self.prefix + it for it in self.ids])
+        self.style.processor.ask("drop", works=[self.prefix + name for name in self.ids])
 
     def cite(self, id: str, locator: Tuple[str, str] | None = None, **cite: Any) -> Content:
         """The cite of a work, alone, without the texts around it. What `cite` has is as in
@@ -252,7 +252,7 @@ class Document:
             id = str(cite["id"])
             if id not in self.works.ids:
                 raise Refused(f"no work has the `id` {id}")
-            item = {name: it for name, it in cite.items() if name != "id" and it is not None}
+            item = {name: part for name, part in cite.items() if name != "id" and part is not None}
             if "locator" in item:
                 item["locator"] = dict(zip(("label", "value"), item["locator"]))
             items.append({"work": self.works.prefix + id, **item})
@@ -263,19 +263,19 @@ class Document:
         """Adds citations, as `citations_of` reads them. In a note style one without the number of a
         note has that of its place among all citations, from 1 on."""
         is_note = self.works.style.source.tree.get("class") == "note"
-        for it in citations:
-            self.citation(it.cites, it.note or (len(self.citations) + 1 if is_note else None))
+        for given in citations:
+            self.citation(given.cites, given.note or (len(self.citations) + 1 if is_note else None))
 
     def render(self, uncited: Iterable[str] = ()) -> RenderedDocument:
         """The citations, and the bibliography, which has the works that are cited, and these."""
         style, prefix = self.works.style, self.works.prefix
         found = style.processor.ask("document", style=style.name, citations=self.citations,
-                                    works=[f"{prefix}{it}" for it in uncited], formats=FORMATS)
+                                    works=[f"{prefix}{name}" for name in uncited], formats=FORMATS)
         listed = found["bibliography"] or {"items": []}
-        entries = [Entry(**vars(content(it["content"])), id=it["work"][len(prefix):],
-                         first_field=it.get("first-field") and content(it["first-field"]))
-                   for it in listed.pop("items")]
-        return RenderedDocument([content(it) for it in found["citations"]], entries, listed)
+        entries = [Entry(**vars(content(item["content"])), id=item["work"][len(prefix):],
+                         first_field=item.get("first-field") and content(item["first-field"]))
+                   for item in listed.pop("items")]
+        return RenderedDocument([content(item) for item in found["citations"]], entries, listed)
 
 
 @dataclasses.dataclass(frozen=True)

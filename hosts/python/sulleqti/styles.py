@@ -35,7 +35,7 @@ SETTINGS = {"demote-non-dropping-particle": "DemoteNonDroppingParticle",
 def plain(text: str | None) -> str:
     """A text as a comment holds it: on one line, and without characters that have no shape."""
     text = " ".join((text or "").replace("`", "'").split())
-    return "".join(it for it in text if unicodedata.category(it)[0] != "C")
+    return "".join(char for char in text if unicodedata.category(char)[0] != "C")
 
 
 def macros_of(style: Node) -> List[Node]:
@@ -51,7 +51,7 @@ def macros_of(style: Node) -> List[Node]:
         called = node.get("macro") if node.name in ("text", "key") else None
         if called is not None and called not in macros:
             node.refuse(f"the macro `{called}` is missing")
-    calls = {name: [it.get("macro") for it in node.iter(f"{CS}text") if it.get("macro")]
+    calls = {name: [text.get("macro") for text in node.iter(f"{CS}text") if text.get("macro")]
              for name, node in macros.items()}
     try:
         graphlib.TopologicalSorter(calls).prepare()
@@ -78,8 +78,8 @@ class Style:
     def __init__(self, path: str, locales: Sequence[Locale] = ()) -> None:
         self.path, self.root = path, document(path, "style")
         refuse_dependent(self.root)
-        self.title, self.rights = (plain(self.root.findtext(f"{CS}info/{CS}{it}"))
-                                   for it in ("title", "rights"))
+        self.title, self.rights = (plain(self.root.findtext(f"{CS}info/{CS}{part}"))
+                                   for part in ("title", "rights"))
         self.locales = list(locales) or [self.default_locale()]
         self.language = language_of(self.locales[0])
         self.left: Counter[str] = collections.Counter()
@@ -91,7 +91,7 @@ class Style:
         for name in LAYOUTS:
             if (node := self.root.first(name)) is not None:
                 style[name].update(self.layout(node))
-        style["macros"] = [self.macro(it) for it in macros]
+        style["macros"] = [self.macro(macro) for macro in macros]
         copies = KeyMacros(style["macros"], self.elements)
         for key, limits in self.limited:
             key["macro"] = copies.limited(key["macro"], limits)
@@ -142,7 +142,7 @@ class Style:
         to the options."""
         for sort in node.below("sort"):
             Attributes(sort, self.left).end(("key",))
-        keys = [self.key(it) for it in node.below("sort", "key")]
+        keys = [self.key(key) for key in node.below("sort", "key")]
         layouts = node.below("layout")
         if len(layouts) != 1:
             node.refuse(f"`{node.name}` needs one `layout`")
@@ -169,7 +169,7 @@ class Style:
             for name in found:
                 self.left[f"`{name}` of a `key` by a variable"] += 1
         elif found:
-            limits = {it: found[name] for name in found for it in LIMITS[name]}
+            limits = {option: found[name] for name in found for option in LIMITS[name]}
             self.limited.append((value, limits))
         return self.elements.made(node, value)
 
@@ -185,5 +185,5 @@ class Style:
         own, read = self.root.below("locale"), Locales(self.elements)
         found = in_order(own, self.locales[0])
         self.left["`locale` of another language"] += len(own) - len(found)
-        self.in_order = [(language_of(it), it in found) for it in [*found, *self.locales]]
-        return [read.locale(it) for it in [*found, *self.locales]]
+        self.in_order = [(language_of(entry), entry in found) for entry in [*found, *self.locales]]
+        return [read.locale(entry) for entry in [*found, *self.locales]]

@@ -192,18 +192,18 @@ class Reader:
         if len(value) > MOST_PERSONS:
             raise Wrong(f"more than {MOST_PERSONS} names")
         found = []
-        for it in value:
+        for person in value:
             try:
-                found.append(self.person(it))
+                found.append(self.person(person))
             except Wrong as why:
                 self.tell(why)
         return found
 
     def tell_unknown(self, value: Tree, known: Iterable[str], why: str) -> None:
         """Tells each member that is not known."""
-        for it in value:
-            if it not in known:
-                self.tell(f"{named(it)} {why}{self.near(it, known)}")
+        for name in value:
+            if name not in known:
+                self.tell(f"{named(name)} {why}{self.near(name, known)}")
 
     def person(self, value: Any) -> Tree:
         """A person, or an institution. A particle that stays with the family name is the beginning
@@ -211,7 +211,7 @@ class Reader:
         if not isinstance(value, dict):
             raise Wrong('a name has to be an object, as {"family": "Kwan", "given": "Kevin"}')
         self.tell_unknown(value, PERSON, "is no part of a name")
-        parts = {it: text_of(value[it]) for it in NAME_TEXTS if value.get(it) not in (None, "")}
+        parts = {key: text_of(value[key]) for key in NAME_TEXTS if value.get(key) not in (None, "")}
         if "literal" in parts:
             return {"family": parts["literal"]}
         family, given = parts.get("family"), parts.get("given")
@@ -228,7 +228,7 @@ class Reader:
                  "suffix": parts.get("suffix")}
         if found["suffix"] and value.get("comma-suffix"):
             found["comma-suffix"] = True
-        return {name: it for name, it in found.items() if it}
+        return {name: part for name, part in found.items() if part}
 
     def date(self, value: Any) -> Tree:
         """A date. Of a range it is the first."""
@@ -257,26 +257,26 @@ class Reader:
             in_words = f"{named(text)} is in words; in numbers it is as [[2014, 5, 2]]"
             raise Wrong(f"no date: {in_words if text else 'it is empty'}")
         self.left[RANGES] += "/" in text
-        words = [int(it) for it in found.groups()[:3] if it]
+        words = [int(part) for part in found.groups()[:3] if part]
         self.check(words)
         return words, bool(found[4])
 
     def numbers(self, value: Any) -> List[int]:
         """The parts of the first date of a list."""
-        if not isinstance(value, list) or not value or not all(isinstance(it, list) for it in
+        if not isinstance(value, list) or not value or not all(isinstance(date, list) for date in
                                                                value):
             raise Wrong("no date: `date-parts` is a list of lists, as [[2014, 5, 2]]")
         self.left[RANGES] += len(value) > 1
         parts = list(value[0])
         while parts and parts[-1] in (None, ""):
             del parts[-1]
-        if any(it in (None, "") for it in parts):
+        if any(part in (None, "") for part in parts):
             raise Wrong(PARTS)
-        words = [number_of(it) for it in parts]
+        words = [number_of(part) for part in parts]
         if words[:1] == [0]:
             raise Wrong("no date: there is no year 0")
         # (44 BC is -44 here, and -43 in the library, which has a year 0)
-        words[:1] = [it + (it < 0) for it in words[:1]]
+        words[:1] = [year + (year < 0) for year in words[:1]]
         self.check(words)
         return words
 

@@ -43,13 +43,13 @@ class StandIns(unittest.TestCase):
         answer = "sys.stderr.write('x' * 200_000); print('{\"ok\": ' + str(len(line)) + '}')"
         with stands_in(answer) as processor:
             found = []
-            threads = [threading.Thread(target=lambda it=it: found.append(
-                (it, processor.ask("a" * it)))) for it in range(20)]
-            for it in threads:
-                it.start()
-            for it in threads:
-                it.join()
-            self.assertEqual(sorted(found), [(it, it + 11) for it in range(20)])
+            threads = [threading.Thread(target=lambda size=count: found.append(
+                (size, processor.ask("a" * size)))) for count in range(20)]
+            for thread in threads:
+                thread.start()
+            for thread in threads:
+                thread.join()
+            self.assertEqual(sorted(found), [(count, count + 11) for count in range(20)])
 
     def test_ends(self):
         """A program that ends, and is not started again."""
@@ -121,9 +121,9 @@ class Served(unittest.TestCase):
             given = processor.style(STYLE).works([{"id": 1, "type": "book", "titel": "T"}, 7])
             self.assertEqual(given.warnings[1], "item 2: an item has to be an object")
             works.drop()
-            for it in works, given:
+            for these in works, given:
                 with self.assertRaisesRegex(sulleqti.Refused, "no work is kept by this name"):
-                    it.cite("kwan")
+                    these.cite("kwan")
             works.style.drop()
             with self.assertRaisesRegex(sulleqti.Refused, "no style is kept by this name"):
                 works.cite("kwan")
@@ -138,10 +138,10 @@ class Served(unittest.TestCase):
             cite = document.cite("moss", locator=("page", "7"), purpose="prose")
             document.cite("fern", hidden=True)
             done = document.render(uncited=["doe"])
-        self.assertEqual([it.text for it in done.citations],
+        self.assertEqual([citation.text for citation in done.citations],
                          ["(see Kwan 2014; Roe 2010)", "Kwan (2014: 7)", ""])
         self.assertEqual(done[cite].html, "Kwan (2014: 7)")
-        self.assertEqual([(it.id, it.text) for it in done.bibliography], [
+        self.assertEqual([(entry.id, entry.text) for entry in done.bibliography], [
             ("doe", "Doe. 1999. Lakes."), ("fern", "Kwan. 2016. Ferns."),
             ("moss", "Kwan. 2014. Moss."), ("roe", "Roe. 2010. Hills.")])
         self.assertEqual(done.looks, {"hanging-indent": True, "line-spacing": 1,
@@ -156,8 +156,8 @@ class Served(unittest.TestCase):
         with tempfile.TemporaryDirectory() as room:
             shutil.copy(f"{HERE}/year.csl", f"{room}/apa.csl")
             shutil.copy(ITEMS, f"{room}/items.json")
-            for it in (block, begin + PROGRAM):
-                ran = subprocess.run([sys.executable, "-c", it], cwd=room, env=path,
+            for program in (block, begin + PROGRAM):
+                ran = subprocess.run([sys.executable, "-c", program], cwd=room, env=path,
                                      stdout=subprocess.PIPE, check=True)
                 self.assertEqual(ran.stdout.decode(),
                                  "(van der Kwan, Okafor, ACME 2014: 7) van der Kwan, Okafor, ACME. "

@@ -88,8 +88,9 @@ class Readers(unittest.TestCase):
         """Works, what is wrong with them, and what is left out of them."""
         left = collections.Counter()
         works, faults = sulleqti.works_of(ITEMS, left)
-        self.assertEqual([it.tree for it in works], value_of("works.json"))
-        self.assertEqual([it.place for it in works], [f"{ITEMS}:{line}" for line in (2, 14, 16)])
+        self.assertEqual([work.tree for work in works], value_of("works.json"))
+        self.assertEqual([work.place for work in works],
+                         [f"{ITEMS}:{line}" for line in (2, 14, 16)])
         self.assertEqual(faults, [
             f"{ITEMS}:11: kwan: `submitted`: no date: `n.d.` is in words; in numbers it is as "
             "[[2014, 5, 2]]",
