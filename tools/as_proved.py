@@ -1,13 +1,12 @@
 """A program that nothing proves, compiled as `rattle build` compiles a proved one. It is the
 bitcode of an unproved build without its run-time checks, and with those functions out of line that
 the sources keep so. For the tools that count instructions and stack of tools/works."""
-import glob
-import os
 import re
 import subprocess
 from typing import Callable, Iterable, Iterator
 
-from kit import TARGET, OtherKit, kit, read
+from kit import TARGET, OtherKit, kit
+from sources import functions_of, texts_of
 from unproved import compiled, link
 
 # As `rattle build` compiles a program.
@@ -34,14 +33,10 @@ def bitcode(crate: str, room: str) -> str:
 def out_of_line(checkout: str) -> set[str]:
     """The functions that the sources keep out of line, as expressions: the bitcode of an unproved
     build does not say so."""
-    hint, head = r"#\[inline\(never\)\]\s+(?:#\[.*\]\s+)*", r"(?:pub(?:\(crate\))? )?fn (\w+)"
-    marked = re.compile(hint + head)
-    names: set[str] = set()
-    for file in glob.glob(f"{checkout}/crates/*/src/**/*.rt", recursive=True):
-        crate = os.path.relpath(file, f"{checkout}/crates").partition("/")[0]
-        functions = marked.findall(read(file))
-        names.update(rf"{crate}::(?:\w+::)*{name}" for name in functions)
-    return names
+    return {rf"{file.split('/')[1]}::(?:\w+::)*{function.name}"
+            for file, text in texts_of(checkout) if "#[inline(never)]" in text
+            for function in functions_of(text)
+            if any("#[inline(never)]" in line for line in function.above())}
 
 
 def counted(text: Iterable[str]) -> Iterator[str]:

@@ -1,15 +1,13 @@
 """The way from a module to its definitions: a file of `specs/` of its name, or else a line at the
 end of its head."""
-import glob
 import itertools
 import os
 import re
 from typing import Iterator
 
 from kit import TOP, read, uses_of_crates
+from specs import USE
 
-# A file of definitions that a module cites: its crate, and its path there.
-CITE = re.compile(r"^\s*ghost use Rattle\.(\w+)\.specs\.([\w.]+?)(?=;|\.\{| as )", re.M)
 # What the prover makes of types and derives is in no file.
 GENERATED = {"declared", "contracts"}
 # The root of a crate has no line.
@@ -21,12 +19,6 @@ FILE = re.compile(r"(?:crates/(\w+)/)?specs/(\w+)\.antt")
 MADE_UP = "tools/document_tests/modules"
 
 
-def modules() -> Iterator[tuple[str, str]]:
-    """The path and the text of each module."""
-    for path in sorted(glob.glob(f"{TOP}/crates/*/src/**/*.rt", recursive=True)):
-        yield os.path.relpath(path, TOP), read(path)
-
-
 def made_up_modules() -> Iterator[tuple[str, str]]:
     """The path and the text of each made-up module."""
     _, *parts = re.split(r"^== (.*)\n", read(f"{TOP}/{MADE_UP}"), flags=re.M)
@@ -36,7 +28,7 @@ def made_up_modules() -> Iterator[tuple[str, str]]:
 def cited_files(text: str) -> Iterator[tuple[str, str]]:
     """The files of definitions that a module cites, each by its crate and its name."""
     crates = uses_of_crates()
-    for crate, path in CITE.findall(text):
+    for crate, path, *_ in USE.findall(text):
         parts = path.split(".")
         if crate in crates and not GENERATED.intersection(parts):
             yield crate, parts[-1]

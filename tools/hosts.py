@@ -2,12 +2,12 @@
 server."""
 import contextlib
 import re
-import shutil
 import subprocess
-from typing import ContextManager, Iterator
+from typing import ContextManager
 
 from as_proved import built
 from kit import TOP, Failure, read
+from libraries import copy_sources
 from programs import CHECKED, Program, Work, teller
 from unproved import compiled
 
@@ -37,10 +37,8 @@ class AsProved(Program):
 
     def laid_out(self, work: Work) -> str:
         """The crate, in a copy of the sources."""
-        to = f"{work.room}/checkout"
-        shutil.copytree(f"{TOP}/crates", f"{to}/crates", ignore=shutil.ignore_patterns("out"))
-        shutil.copy(f"{TOP}/crates.txt", to)
-        return f"{to}/crates/{self.name}"
+        copy_sources(f"{work.room}/checkout")
+        return f"{work.room}/checkout/crates/{self.name}"
 
     def built(self, work: Work) -> str:
         """The program, built from a copy of the sources."""

@@ -5,7 +5,7 @@ import re
 
 import specs
 from kit import TOP, read, uses_of_crates
-from sources import Item, bare, impl_of, modules_of
+from sources import Item, modules_of, owner_of
 from wrong_bodies import all_entries
 
 # Names of Rust and of std that stand in the repository for nothing of its own.
@@ -35,9 +35,8 @@ class Names:
 
     def add(self, item: Item) -> None:
         """Adds an item with its members."""
-        owner = item.name
+        trait, owner = owner_of(item)
         if item.kind == "impl":
-            trait, owner = map(bare, impl_of(item))
             self.members.setdefault(owner, set()).update(self.members.get(trait, set()), [trait])
         if item.kind == "fn":
             self.add_function(item)

@@ -29,6 +29,7 @@ for crate in crates:
 
 def copy_sources(room: str) -> None:
     """Copies the crates of the checkout into a room, without edits and without what was built."""
+    os.makedirs(room, exist_ok=True)
     for file in ("crates.txt", "HANDLES"):
         shutil.copy2(f"{TOP}/{file}", room)
     left_out = shutil.ignore_patterns("out", "must-fail")
@@ -38,7 +39,6 @@ def copy_sources(room: str) -> None:
 def kept_libraries(room: str, below: list[str]) -> dict[str, str]:
     """The libraries among these crates that an earlier `rt ci` built of these very sources, each
     with its place in the room, a new folder."""
-    os.makedirs(room)
     copy_sources(room)
     asked = [sys.executable, "-c", ASKING, f"{kit()}/bin/rt"]
     said = subprocess.run(asked, cwd=room, stdin=subprocess.DEVNULL, stdout=subprocess.PIPE,

@@ -9,8 +9,8 @@ for all: names that are visible to more, and imports that nothing uses, change n
 import os
 import re
 
-from kit import Failure, kit, read, words_of_try
-from sources import FUNCTION, function_around, functions_of
+from kit import Failure, kit, read, words_of_try, write
+from sources import function_around, functions_of, made
 from unproved import Built, checked, compiled, compiled_c, link
 from wrong_bodies import Entry, all_entries
 
@@ -25,7 +25,8 @@ Place = tuple[str, int, int]
 
 def bodies_of(text: str) -> list[tuple[int, int]]:
     """Where the bodies of functions begin and end in a file, braces included."""
-    return [(it.body, it.end) for it in functions_of(text) if it.body < it.end - 1]
+    places = ((it.body(), it.end) for it in functions_of(text))
+    return [(start, end) for start, end in places if start < end - 1]
 
 
 def is_in_body(text: str, old: str) -> bool:
@@ -37,7 +38,7 @@ def is_in_body(text: str, old: str) -> bool:
 def is_constant(text: str, start: int) -> bool:
     """Whether a body is that of a function which is computed while the program is compiled."""
     found = function_around(text, start)
-    return bool(found and "const " in text[found.start:text.index(found.name, found.start)])
+    return bool(found and "const " in found.head().partition("fn ")[0])
 
 
 class Planting:
@@ -84,7 +85,8 @@ class Planting:
     def fault_of(self, edited: dict[str, str], lines: dict[tuple[str, str], str]) -> str:
         """Why an edit cannot be planted, or an empty text."""
         for (file, old), new in lines.items():
-            if not re.match(r"\s*use ", old) and not FUNCTION.match(old.lstrip()):
+            changed_for_all = made(old.lstrip(), None)
+            if not changed_for_all or changed_for_all[0] not in ("use", "fn"):
                 return f"it changes what is in no body: {old}"
             if self.lines.get((file, old), new) != new:
                 return f"another edit changes the same line: {old}"
@@ -123,9 +125,7 @@ class Planting:
     def write(self) -> None:
         """Writes the files with all bodies."""
         for file in {place[0] for place in self.bodies} | {file for file, _ in self.lines}:
-            text = self.text_with(file)
-            with open(f"{self.checkout}/{file}", "w", encoding="utf-8") as source:
-                source.write(text)
+            write(f"{self.checkout}/{file}", self.text_with(file))
 
 
 def planting_of(checkout: str, entries: list[Entry]) -> Planting:
@@ -149,8 +149,7 @@ def name_at(checkout: str, names: list[str], said: str) -> str:
     for file, line in re.findall(r"^(\S+\.rt):(\d+):\d+: error", said, re.M):
         for path in (file, f"{checkout}/{file}"):
             if os.path.isfile(path):
-                with open(path, encoding="utf-8") as source:
-                    above = "".join(source.readlines()[:int(line)])
+                above = "\n".join(read(path).split("\n")[:int(line)])
                 numbers = re.findall(r"\bchosen_body\((\d+)\)", above)
                 return names[int(numbers[-1]) - 1] if numbers else ""
     return ""

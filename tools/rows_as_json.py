@@ -1,4 +1,4 @@
-"""The notation of tests/rows as JSON of docs/WIRE.md: styles, layouts, entries, cites and documents."""
+"""The notation of tests/rows as JSON of docs/WIRE.md: styles, entries, cites and documents."""
 import re
 from typing import Any, Iterable, Iterator, NamedTuple
 

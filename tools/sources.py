@@ -2,23 +2,32 @@
 and clauses, and the paths by which a caller imports them. It relies on how `rt fmt` writes a
 file."""
 import functools
+import glob
 import os
 import re
-from typing import Iterator, NamedTuple
+from typing import Iterable, Iterator, NamedTuple
 
 from kit import TOP, read, uses_of_crates
 
-ITEM = re.compile(r"(pub(?:\([a-z]+\))? )?(?:final |unsafe )*"
+ITEM = re.compile(r"(pub(?:\([a-z]+\))? )?"
+                  r'(?:final |unsafe |const (?=unsafe |extern |fn )|extern "C" )*'
                   r"(fn|struct|enum|trait|type|static|const|mod|use|impl|ghost use|ghost)\b *"
                   r"(\w*)")
-# The head of a function, up to its name.
-FUNCTION = re.compile(r'^( *)(?:pub(?:\([a-z]+\))? )?(?:[a-z]+ +(?:"C" )?)*fn (\w+)', re.M)
 FIELD = re.compile(r"(pub(?:\([a-z]+\))? )?(\w+): (.*),", re.S)
 VARIANT = re.compile(r"([A-Z]\w*)(.*),", re.S)
 CLAUSE = re.compile(r"^\s*(ensures|requires)\*?(?: (\w+))? (?=\{)", re.M)
 ENDS_OF_HEAD = re.compile(r"\n\s*(?:requires|ensures|ghost|where)\b|\{|;")
+# A line of an attribute or a comment.
+ABOVE = re.compile(r" *(?:#\[|//)")
 
 
+def texts_of(top: str, crate: str = "*") -> Iterator[tuple[str, str]]:
+    """The sources of a crate of a checkout, or of all, each with its path in the checkout."""
+    for path in sorted(glob.glob(f"{top}/crates/{crate}/src/**/*.rt", recursive=True)):
+        yield os.path.relpath(path, top), read(path)
+
+
+@functools.cache
 def blank(text: str) -> str:
     """The source with blanks in place of comments and quoted text, so that places stay the same."""
     comments, raw, quoted = r"//[^\n]*|/\*.*?\*/", r'r(#*)".*?"\1', r'b?"(?:\\.|[^"\\])*"'
@@ -40,134 +49,108 @@ def end_of(text: str, start: int) -> int:
     return len(text)
 
 
-def head_of(text: str, start: int) -> tuple[str, int]:
-    """A function from its name on: its signature, and the place where the signature ends."""
-    depth, place = 0, start
-    while place < len(text):
-        if text[place] in "([":
-            depth += 1
-        elif text[place] in ")]":
-            depth -= 1
-        elif depth == 0 and ENDS_OF_HEAD.match(text, place):
-            break
-        place += 1
-    return text[start:place], place
-
-
-class Function(NamedTuple):
-    """A function of a file: the file's text, its name and the space in front of it, and where its
-    head, its body and what is after it begin. One that is only declared has an empty body."""
-
-    file: str
-    name: str
-    indent: str
-    start: int
-    body: int
-    end: int
-
-    def above(self) -> list[str]:
-        """The lines of attributes and comments right above it."""
-        lines = self.file[:self.start].split("\n")[:-1]
-        count = next((at for at, line in enumerate(reversed(lines))
-                      if not re.match(r" *(?:#\[|//)", line)), len(lines))
-        return lines[len(lines) - count:]
-
-    def cycle(self) -> str:
-        """The cycle of calls that it is in, or an empty text."""
-        found = re.search(r"#\[cycle\((\w+)\)\]", "\n".join(self.above()))
-        return found[1] if found else ""
-
-    def block(self) -> str:
-        """The head of the block of an `impl` or a trait around it, or an empty text."""
-        heads = re.findall(r"^(?:pub )?(?:impl|trait)\b.*", self.file[:self.start], re.M)
-        return heads[-1] if self.indent else ""
-
-
-@functools.cache
-def functions_of(text: str) -> list[Function]:
-    """The functions of a file. One inside of another is a part of that one's body."""
-    blanked, found = blank(text), [Function("", "", "", 0, 0, 0)]
-    heads = list(FUNCTION.finditer(blanked))
-    for head, after in zip(heads, [*(it.start() for it in heads[1:]), len(text)]):
-        if head.start() < found[-1].end:
-            continue
-        # After clauses the brace of the body has a line of its own.
-        at = head_of(blanked, head.start(2))[1]
-        if blanked[at:at + 1] not in ("{", ";"):
-            opened = re.compile(rf"^{head[1]}\{{$", re.M).search(blanked, at, after)
-            opened = opened or re.compile(";$", re.M).search(blanked, at, after)
-            at = opened.end() - 1 if opened else after
-        end = end_of(blanked, at) if blanked[at:at + 1] == "{" else at + 1
-        found.append(Function(text, head[2], head[1], head.start(), at, end))
-    return found[1:]
-
-
-def function_around(text: str, at: int) -> Function | None:
-    """The function around a place of a file."""
-    return next((it for it in functions_of(text) if it.start <= at < it.end), None)
-
-
 class Item(NamedTuple):
     """An item of a file, or a member of one: its kind (`fn`, .., `field`, `variant`), its name,
-    whether it is public, its doc comment, its text, and the first of its lines in the file."""
+    whether it is public, the text of the file, where it begins there, with a line, and ends, and
+    the item that it is a member of."""
 
     kind: str
     name: str
     is_public: bool
-    doc: str
-    text: str
-    line: int
+    file: str
+    start: int
+    end: int
+    around: "Item | None"
+
+    @property
+    def text(self) -> str:
+        """Its text, without attributes and comments before it."""
+        return self.file[self.start:self.end]
+
+    def above(self) -> list[str]:
+        """The lines of attributes and comments right above it."""
+        lines = self.file[:self.start].split("\n")[:-1]
+        count = next((at for at, line in enumerate(reversed(lines)) if not ABOVE.match(line)),
+                     len(lines))
+        return lines[len(lines) - count:]
+
+    @property
+    def doc(self) -> str:
+        """Its doc comment."""
+        lines = (line.lstrip() for line in self.above())
+        return "\n".join(line[4:] for line in lines if line.startswith("///"))
+
+    def cycle(self) -> str:
+        """The cycle of calls that a function is in, or an empty text."""
+        found = re.search(r"#\[cycle\((\w+)\)\]", "\n".join(self.above()))
+        return found[1] if found else ""
+
+    def end_of_head(self) -> int:
+        """The place of the file at which its clauses or its body begin."""
+        text, depth = blank(self.file), 0
+        for place in range(self.start, self.end):
+            if text[place] in "([":
+                depth += 1
+            elif text[place] in ")]":
+                depth -= 1
+            elif depth == 0 and ENDS_OF_HEAD.match(text, place):
+                return place
+        return self.end
 
     def head(self) -> str:
         """Its text up to clauses or a body, on one line."""
-        end = head_of(blank(self.text), 0)[1]
-        return " ".join(self.text[:end].split())
+        return " ".join(self.file[self.start:self.end_of_head()].split())
+
+    def body(self) -> int:
+        """The place of the file at which the body of a function begins, or its semicolon. After
+        clauses the brace has a line of its own."""
+        text, at = blank(self.file), self.end_of_head()
+        if text[at:at + 1] == "{":
+            return at
+        opened = re.compile(r"^ *\{$", re.M).search(text, at, self.end)
+        return opened.end() - 1 if opened else self.end - 1
 
     def clauses(self) -> list[tuple[str, str, str]]:
         """Its clauses: the word each begins with, its name or an empty text, and its text."""
-        blanked = blank(self.text)
-        body = re.search(r"^ *\{$", blanked, re.M)
-        found = CLAUSE.finditer(blanked, 0, body.start() if body else len(blanked))
-        return [(it[1], it[2] or "", self.text[it.end():end_of(blanked, it.end())]) for it in found]
+        text = blank(self.file)
+        return [(it[1], it[2] or "", self.file[it.end():end_of(text, it.end())])
+                for it in CLAUSE.finditer(text, self.start, self.body())]
 
     def members(self) -> list["Item"]:
         """The items inside it, or its fields or variants."""
-        first, *rest = self.text.split("\n")
-        inside = len(first) - len(first.lstrip()) + 4
-        return list(items_in(rest, inside, self.line + 1, self.kind))
+        return list(items_in(self.file, self))
 
 
-def made(text: str, indent: int, doc: list[str], line: int, around: str) -> Item | None:
-    """The item that a text is, if it is one that is known here."""
-    words = text[indent:]
-    if around == "struct" and (found := FIELD.match(words)):
-        return Item("field", found[2], found[1] == "pub ", "\n".join(doc), text, line)
-    if around == "enum" and (found := VARIANT.match(words)):
-        return Item("variant", found[1], True, "\n".join(doc), text, line)
-    if found := ITEM.match(words):
-        return Item(found[2], found[3], found[1] == "pub ", "\n".join(doc), text, line)
-    return None
+def made(words: str, around: Item | None) -> tuple[str, str, bool] | None:
+    """The kind and the name of the item that begins with these words, if it is one that is known
+    here, and whether it is public."""
+    kind = around.kind if around else ""
+    if kind == "struct" and (found := FIELD.match(words)):
+        return "field", found[2], found[1] == "pub "
+    if kind == "enum" and (found := VARIANT.match(words)):
+        return "variant", found[1], True
+    found = ITEM.match(words)
+    return (found[2], found[3], found[1] == "pub ") if found else None
 
 
-def items_in(lines: list[str], indent: int, line: int, around: str = "") -> Iterator[Item]:
-    """The items whose lines begin so far to the right, from a line of the file on."""
-    blanked = blank("\n".join(lines)).split("\n")
-    doc: list[str] = []
-    margin, at = " " * indent, 0
+def items_in(file: str, around: Item | None = None) -> Iterator[Item]:
+    """The items of a file, or those inside of an item."""
+    start, end = (around.start, around.end) if around else (0, len(file))
+    lines = blank(file)[start:end].split("\n")
+    indent = len(lines[0]) - len(lines[0].lstrip()) + 4 if around else 0
+    margin, is_listed = " " * indent, bool(around and around.kind in ("struct", "enum"))
+    at = 0
+    if around:
+        start, at = start + len(lines[0]) + 1, 1
     while at < len(lines):
-        words, start = lines[at][indent:], at
-        if not lines[at].startswith(margin) or words[:1] in ("", " "):
-            doc = [] if not words else doc
-        elif words.startswith("//"):
-            doc += [words[4:]] if words.startswith("///") else []
-        else:
-            at = end_of_item(blanked, at, margin, around in ("struct", "enum"))
-            text = "\n".join(lines[start:at + 1])
-            if not words.startswith("#"):
-                if item := made(text, indent, doc, line + start, around):
-                    yield item
-                doc = []
+        first = at
+        if lines[at].startswith(margin) and lines[at][indent:indent + 1] not in ("", " "):
+            at = end_of_item(lines, at, margin, is_listed)
+            end = start + sum(len(it) + 1 for it in lines[first:at]) + len(lines[at].rstrip())
+            if found := made(file[start + indent:end], around):
+                yield Item(*found, file, start, end, around)
         at += 1
+        start += sum(len(it) + 1 for it in lines[first:at])
 
 
 def end_of_item(blanked: list[str], at: int, margin: str, is_listed: bool) -> int:
@@ -181,6 +164,26 @@ def end_of_item(blanked: list[str], at: int, margin: str, is_listed: bool) -> in
         if depth <= 0 and ends:
             break
     return at
+
+
+def functions_in(items: Iterable[Item]) -> Iterator[Item]:
+    """The functions among items and in their blocks. One inside of another is a part of that."""
+    for item in items:
+        if item.kind == "fn":
+            yield item
+        elif item.kind in ("impl", "trait", "mod"):
+            yield from functions_in(item.members())
+
+
+@functools.cache
+def functions_of(file: str) -> list[Item]:
+    """The functions of a file."""
+    return list(functions_in(items_in(file)))
+
+
+def function_around(file: str, at: int) -> Item | None:
+    """The function around a place of a file."""
+    return next((it for it in functions_of(file) if it.start <= at < it.end), None)
 
 
 class Module(NamedTuple):
@@ -198,7 +201,7 @@ def module_at(crate: str, path: tuple[str, ...]) -> Module | None:
     file = f"crates/{crate}/src/{'/'.join(path) or 'lib'}.rt"
     if not os.path.exists(f"{TOP}/{file}"):
         return None
-    return Module(crate, path, file, list(items_in(read(f"{TOP}/{file}").split("\n"), 0, 1)))
+    return Module(crate, path, file, list(items_in(read(f"{TOP}/{file}"))))
 
 
 def modules_of(crate: str) -> list[Module]:
@@ -291,7 +294,7 @@ def public_items(crate: str) -> dict[str, list[tuple[Module, Item]]]:
     of the lower crate comes first. Each item stands once."""
     root, order = module_at(crate, ()), list(uses_of_crates())
     found: dict[str, list[tuple[Module, Item]]] = {}
-    seen: set[tuple[str, str, int]] = set()
+    seen: set[tuple[str, int]] = set()
     level = [(crate, root)] if root else []
     reached = {(it.crate, it.path) for _, it in level}
     while level:
@@ -305,29 +308,43 @@ def public_items(crate: str) -> dict[str, list[tuple[Module, Item]]]:
                 if item is None and (at.crate, at.path) not in reached:
                     reached.add((at.crate, at.path))
                     below.append((f"{path}::{name}", at))
-                elif item and (at.crate, at.file, item.line) not in seen:
-                    seen.add((at.crate, at.file, item.line))
+                elif item and (at.file, item.start) not in seen:
+                    seen.add((at.file, item.start))
                     found.setdefault(path, []).append((at, item))
         level = sorted(below, key=lambda it: order.index(it[1].crate))
     return found
 
 
-def impl_of(item: Item) -> tuple[str, str]:
-    """The trait of an `impl`, or an empty text, and its type, without lifetimes and bounds."""
-    words = re.sub(r"^\s*impl", "", item.head())
+def parts_of_block(head: str) -> tuple[str, str, str]:
+    """What the head of an `impl` or a trait has: its own parameters, in their brackets, the trait
+    of an `impl`, and the type; empty texts for what is not there."""
+    words, place = re.sub(r"^\s*(?:pub |unsafe )*(?:impl|trait)", "", head), 0
     if words.startswith("<"):
-        depth, place = 1, 1
+        depth = place = 1
         while depth:
             depth += (words[place] == "<") - (words[place] == ">" and words[place - 1] != "-")
             place += 1
-        words = words[place:]
-    trait, given, of_type = words.strip().rpartition(" for ")
-    return (trait.strip(), of_type) if given else ("", words.strip())
+    trait, _, of_type = words[place:].strip(" {").rpartition(" for ")
+    return words[:place], trait.strip(), of_type
+
+
+def impl_of(item: Item) -> tuple[str, str]:
+    """The trait of an `impl`, or an empty text, and its type, without lifetimes and bounds."""
+    return parts_of_block(item.head())[1:]
 
 
 def bare(name: str) -> str:
     """The name of a type without its path, its borrow and its parameters."""
     return re.sub(r"<.*", "", name.lstrip("&")).rpartition("::")[2].strip()
+
+
+def owner_of(item: Item | None) -> tuple[str, str]:
+    """The names of the trait of an `impl`, or an empty text, and of its type; of any other item an
+    empty text and its own name."""
+    if item is None or item.kind != "impl":
+        return "", item.name if item else ""
+    trait, of_type = impl_of(item)
+    return bare(trait), bare(of_type)
 
 
 @functools.cache

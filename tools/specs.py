@@ -8,9 +8,26 @@ from kit import TOP, read, uses_of_crates
 
 WORD = r"[^\s(){}\[\],;]+"
 HEAD = re.compile(rf"( *)(?:(?:abbrev|unfoldable|pub) )*(record |data )?(?!→)({WORD})(?: .*)? : ")
-USE = re.compile(r"(?:unfoldable )?(?:pub )?use Rattle\.(\w+)\.specs\.([\w.]+?)"
-                 r"(?:\.\{(.*)\}| as (\w+))?$")
+# What brings definitions to a source, or to a file of definitions.
+USE = re.compile(r"^ *(?:ghost |unfoldable |pub )*use Rattle\.(\w+)\.specs\.([\w.]+?)"
+                 r"(?:\.\{([^}]*)\}| as ([\w-]+))?;?$", re.M)
 CONSTRUCTOR = re.compile(rf" *((?:{WORD} )+): ")
+# What imported names mean: a module of definitions, and the name there. A module under a name of
+# its own has a dot after that, and no name there.
+Imports = dict[str, tuple[str, str]]
+
+
+def imports_of(text: str) -> Imports:
+    """What the imports of a text bring."""
+    found: Imports = {}
+    for crate, path, names, alias in USE.findall(text):
+        at = f"{crate}.{path}"
+        for name in filter(None, map(str.strip, names.split(","))):
+            there, _, here = name.partition(" as ")
+            found[here or there] = (at, there)
+        if alias or not names:
+            found[f"{alias or path}."] = (at, "")
+    return found
 
 
 def head_of(lines: list[str]) -> str:
@@ -26,18 +43,17 @@ class Module:
     def __init__(self, file: str) -> None:
         self.blocks: dict[str, list[str]] = {}
         self.constructors: dict[str, str] = {}
-        self.imports: dict[str, tuple[str, str]] = {}
-        lines = read(file).split("\n")
+        text = read(file)
+        self.imports, lines = imports_of(text), text.split("\n")
         self.head = head_of(lines)
         self.read(lines)
 
     def read(self, lines: list[str]) -> None:
-        """Reads the imports, and gives each line to the definition that it is of."""
+        """Gives each line to the definition that it is of."""
         name, kind, depth = "", "", 0
         for line in lines:
-            if used := USE.match(line):
-                self.read_use(*used.groups())
-            elif line and not re.match(r"--|use |pub use |pub mod |module ", line.strip()):
+            if line and not re.match(r"--|(?:unfoldable |pub )*use |pub mod |module ",
+                                     line.strip()):
                 head = HEAD.match(line)
                 if kind and len(line) - len(line.lstrip()) > depth:
                     made = CONSTRUCTOR.match(line) if kind == "data " else None
@@ -49,16 +65,6 @@ class Module:
                     self.blocks[name] = []
                 if name:
                     self.blocks[name].append(line)
-
-    def read_use(self, crate: str, path: str, names: str | None, alias: str | None) -> None:
-        """Reads what an import brings: the module under a name, or names of it, each as it is there
-        or `as` another."""
-        at = f"{crate}.{path}"
-        for name in names.split(", ") if names else []:
-            there, _, here = name.partition(" as ")
-            self.imports[here or there] = (at, there)
-        if alias or not names:
-            self.imports[f"{alias or path}."] = (at, "")
 
 
 def modules_of(crates: list[str]) -> dict[str, Module]:

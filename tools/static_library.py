@@ -3,12 +3,12 @@ tools that link it."""
 import contextlib
 import os
 import re
-import shutil
 import subprocess
 from typing import Iterable, Iterator
 
 from as_proved import compiled_anew
-from kit import TOP, Failure, kit, read
+from kit import TOP, Failure, kit, read, write
+from libraries import copy_sources
 from programs import Program, Work, teller
 from unproved import compiled
 
@@ -50,13 +50,11 @@ class Archive(Program):
     def built(self, work: Work) -> str:
         """The archive, built from a copy of the sources."""
         to = f"{work.room}/checkout"
-        shutil.copytree(f"{TOP}/crates", f"{to}/crates", ignore=shutil.ignore_patterns("out"))
+        copy_sources(to)
         source = f"{to}/crates/csl_c/src"
         os.rename(f"{source}/lib.rt", f"{source}/main.rt")
-        with open(f"{source}/main.rt", "a", encoding="utf-8") as main, \
-                open(f"{to}/crates.txt", "w", encoding="utf-8") as crates:
-            main.write(REACHES)
-            crates.write(read(f"{TOP}/crates.txt").replace("csl_c staticlib:", "csl_c:"))
+        write(f"{source}/main.rt", read(f"{source}/main.rt") + REACHES)
+        write(f"{to}/crates.txt", read(f"{to}/crates.txt").replace("csl_c staticlib:", "csl_c:"))
         given = compiled(f"{to}/crates/csl_c", work.room, run=work.run).bitcode
         if not given:
             raise Failure("this kit leaves no bitcode")

@@ -19,7 +19,8 @@ BOOK = {"id": "b", "type": "book", "title": "T", "author": [{"family": "Ode"}],
         "issued": {"date-parts": [[2014]]}}
 OF_BOOK = "b\n  (Ode, 2014)\n  Ode (2014). T.\n"
 # A style that prints titles, and what it prints them by.
-OF_TITLES = """<style xmlns="http://purl.org/net/xbiblio/csl" version="1.0" class="in-text"><info/><citation>
+OF_TITLES = """<style xmlns="http://purl.org/net/xbiblio/csl" version="1.0" class="in-text"><info/>\
+<citation>
 <layout delimiter="; "><text variable="title" font-style="italic"/></layout></citation></style>"""
 TITLE = '<text variable="title" font-style="italic"/>'
 # Variables of an item of its own, with the line of the bibliography.
@@ -31,13 +32,15 @@ RIGHT = [
     ({"issued": {"date-parts": [[2014, 5], [2015, 6]]}}, "Ode (2014). T."),
     ({"issued": {"date-parts": [[-44]]}}, "Ode (44BC). T."),
     ({"issued": {"date-parts": [[2014]], "season": 2, "circa": True}}, "Ode (2014). T."),
-    ({"type": "webpage", "issued": {"date-parts": [[2014]], "season": "fall"}}, "Ode (2014, Autumn). T."),
+    ({"type": "webpage", "issued": {"date-parts": [[2014]], "season": "fall"}},
+     "Ode (2014, Autumn). T."),
     ({"type": "webpage", "issued": {"date-parts": [[2014, 22]]}}, "Ode (2014, Summer). T."),
     ({"author": [{"literal": "A, B and C"}]}, "A, B and C (2014). T."),
     ({"author": [{"given": "Plato"}]}, "Plato (2014). T."),
     ({"author": [{"family": "Velde", "given": "Hendrik", "non-dropping-particle": "van der"}]},
      "Velde, H. van der (2014). T."),
-    ({"author": [{"family": "Okafor", "given": "Sam", "suffix": "Jr."}]}, "Okafor, S., Jr. (2014). T."),
+    ({"author": [{"family": "Okafor", "given": "Sam", "suffix": "Jr."}]},
+     "Okafor, S., Jr. (2014). T."),
     ({"author": [{"family": "Beethoven", "given": "Ludwig", "dropping-particle": "van"}]},
      "Beethoven, L. van (2014). T."),
     ({"author": [{"family": "Alembert", "given": "Jean", "non-dropping-particle": "d'"}]},
@@ -50,9 +53,11 @@ RIGHT = [
     ({"title": None, "shortTitle": "S"}, "Ode (2014)."),
     ({"DOI": "10.5555/a"}, "Ode (2014). T. https://doi.org/10.5555/a"),
     ({"DOI": "https://dx.doi.org/10.5555/a"}, "Ode (2014). T. https://doi.org/10.5555/a"),
-    ({"type": "webpage", "issued": {"date-parts": [["2012", "02", 29]]}}, "Ode (2012, February 29). T."),
+    ({"type": "webpage", "issued": {"date-parts": [["2012", "02", 29]]}},
+     "Ode (2012, February 29). T."),
     ({"issued": {"date-parts": [["2014", "", ""]]}}, "Ode (2014). T."),
-    ({"author": [{"family": "Ode", "multi": {"_key": {}}}], "multi": {"main": {}}}, "Ode (2014). T."),
+    ({"author": [{"family": "Ode", "multi": {"_key": {}}}], "multi": {"main": {}}},
+     "Ode (2014). T."),
 ]
 # Variables with something wrong, the line that is told, and what it says.
 WRONG = [
@@ -68,14 +73,18 @@ WRONG = [
     ({"author": ["Ode"]}, 6,
      'b: `author`: a name has to be an object, as {"family": "Kwan", "given": "Kevin"}'),
     ({"author": [{}]}, 6, "b: `author`: a name without `family`, `given` and `literal`"),
-    ({"author": [{"family": "O", "fammily": "O"}]}, 6, "b: `author`: `fammily` is no part of a name (is it `family`?)"),
+    ({"author": [{"family": "O", "fammily": "O"}]}, 6,
+     "b: `author`: `fammily` is no part of a name (is it `family`?)"),
     ({"author": [{}] * 10_001}, 6, "b: `author`: more than 10000 names"),
-    ({"issued": 2014}, 7, 'b: `issued`: no date: an object goes here, as {"date-parts": [[2014, 5]]}'),
+    ({"issued": 2014}, 7,
+     'b: `issued`: no date: an object goes here, as {"date-parts": [[2014, 5]]}'),
     ({"issued": {"date-parts": [["May"]]}}, 7, "b: `issued`: no date: `May` is no number"),
     ({"issued": {"date-parts": [[2014, 13, 41]]}}, 7, "b: `issued`: no date: the day is 41"),
     ({"issued": {"date-parts": [[2014, 17]]}}, 7, "b: `issued`: no date: the month is 17"),
-    ({"issued": {"date-parts": [[]]}}, 7, "b: `issued`: no date: a year, a month and a day go here"),
-    ({"issued": {"date-parts": [["", 5]]}}, 7, "b: `issued`: no date: a year, a month and a day go here"),
+    ({"issued": {"date-parts": [[]]}}, 7,
+     "b: `issued`: no date: a year, a month and a day go here"),
+    ({"issued": {"date-parts": [["", 5]]}}, 7,
+     "b: `issued`: no date: a year, a month and a day go here"),
     ({"issued": {"date-parts": [[0]]}}, 7, "b: `issued`: no date: there is no year 0"),
     ({"issued": {"date-parts": [[2014, 2, 29]]}}, 7, "b: `issued`: no date: the day is 29"),
     ({"issued": {"raw": "2014-04-31"}}, 7, "b: `issued`: no date: the day is 31"),
@@ -100,7 +109,8 @@ FILES = [
     (b"7", ':1: no list of items, as [{"id": "a", "type": "book"}]'),
     (b'{"id": "a"}', ":1: a: an item needs a `type`"),
     (b'{"title": "a"}', ':1: no list of items, as [{"id": "a", "type": "book"}]'),
-    (b'[{"id": "a", "type": "book"},\n{"id": "a"}]', ":2: a: an item of this `id` is there already: FILE:1"),
+    (b'[{"id": "a", "type": "book"},\n{"id": "a"}]',
+     ":2: a: an item of this `id` is there already: FILE:1"),
     (b"[7]", ":1: an item has to be an object"),
     (b"[NaN]", ":1: no JSON: `NaN` is no value"),
     (b"[" * 100_000, ":1: no JSON: it is nested too deep"),
@@ -133,15 +143,18 @@ HOSTILE_BODY = """<h1>Numbers in brackets</h1>
 <div class="entry columns"><div>[1]</div><div>Ode, “A  evil &lt;script&gt; \u05d0,” P, 2014, \
 <a href="https://a.org/b">https://a.org/b</a>.</div></div>
 """
-# Cites of works `a` and `b`, each in the words of citeproc-js, and what the first sample style prints of them.
+# Cites of works `a` and `b`, each in the words of citeproc-js, and what the first sample style
+# prints of them.
 CITES = [
     ([{"id": "a"}], "(Ode, 2014)"),
-    ([{"id": "b", "prefix": "see ", "suffix": ", too"}, {"id": "a", "locator": 7}], "(Ode, 2014, p. 7; see Poe, 2015, too)"),
+    ([{"id": "b", "prefix": "see ", "suffix": ", too"}, {"id": "a", "locator": 7}],
+     "(Ode, 2014, p. 7; see Poe, 2015, too)"),
     ([{"id": "a", "locator": "2", "label": "chapter"}], "(Ode, 2014, chap. 2)"),
     ([{"id": "a", "locator": "x", "label": "sub verbo"}], "(Ode, 2014, s.v. x)"),
     ([{"id": "a", "suppress-author": True}], "(2014)"),
     ([{"id": "a", "author-only": 1}], "Ode"),
-    ({"citationItems": [{"id": "a"}, {"id": "b"}], "properties": {"noteIndex": 3, "mode": "composite"}},
+    ({"citationItems": [{"id": "a"}, {"id": "b"}],
+      "properties": {"noteIndex": 3, "mode": "composite"}},
      "Ode (2014; Poe, 2015)"),
     ({"citationItems": [{"id": "b"}]}, "(Poe, 2015)"),
     ([{"id": "a", "prefix": "<i>cf.</i>\n"}], "(cf. Ode, 2014)"),
@@ -160,7 +173,8 @@ WRONG_CITES = [
 # Names of variables, each a megabyte long.
 LONG_NAMES = ["x" * 1_000_000 + str(place) for place in range(10)]
 # Macros that each call the next one twice.
-DOUBLED = "".join(f'<macro name="m{place}">{f"""<text macro="m{place + 1}"/>""" * 2}</macro>' for place in range(40))
+DOUBLED = "".join(f'<macro name="m{it}">{f"""<text macro="m{it + 1}"/>""" * 2}</macro>'
+                  for it in range(40))
 DOUBLED += '<macro name="m40"/>'
 UNPROVED = "tools/try: csl_serve is not proved here; ./test proves it"
 # Words that are wrong, and what is told of them.
@@ -201,17 +215,19 @@ class TrialTests:
         return self.file("items.json", "[\n" + ",\n".join(texts) + "\n]")
 
     def read(self, path: str) -> tuple[list[str], list[str]]:
-        """What is read of a file: the `id` of each item, and what is told without the name of the file."""
+        """What is read of a file: each `id`, and what is told without the name of the file."""
         try:
             works, faults = works_of(path, collections.Counter())
         except Refused as why:
             works, faults = [], [str(why)]
-        return [work.id for work in works], [fault.removeprefix(path).replace(path, "FILE") for fault in faults]
+        told = [it.removeprefix(path).replace(path, "FILE") for it in faults]
+        return [it.id for it in works], told
 
     def of_items(self, items: list[dict[str, Any]], *words: str) -> tuple[int, str, list[str]]:
         """What is printed of these items, without year suffixes, and what is told of the file."""
         path, style = self.items(items), read(f"{STYLES}/author_year.csl")
-        style = self.file("author_year.csl", style.replace('disambiguate-add-year-suffix="true"', ""))
+        style = self.file("author_year.csl",
+                          style.replace('disambiguate-add-year-suffix="true"', ""))
         status, text, faults = self.tried(style, path, "--more", *words)
         faults = [fault.removeprefix(path) for fault in faults if fault.startswith(path)]
         return status, text.split("The first")[0], faults
@@ -231,7 +247,8 @@ class TrialTests:
             ids = ["c"] if "id" in more else ["b", "c"]
             self.row(f"the wrong item {str(more)[:99]}", given, (ids, [f":{line}: {why}"]))
         item = {**BOOK, "id": "w", "type": "a", "titel": "T"}
-        told = [":4: w: the type `a` is unknown", ":8: w: `titel`: the variable is unknown (is it `title`?)"]
+        told = [":4: w: the type `a` is unknown",
+                ":8: w: `titel`: the variable is unknown (is it `title`?)"]
         wanted = f"w{OF_BOOK[1:]}{OF_BOOK}"
         self.row("an item with two faults", self.of_items([item, BOOK]), (1, wanted, told))
         style = f"{STYLES}/author_year.csl"
@@ -239,8 +256,8 @@ class TrialTests:
         self.row("many wrong items", given[50:], ["10 more faults"])
 
     def test_item_files(self) -> None:
-        """Files of items that are no JSON, or too large, or not there. What is right before a fault is
-        printed."""
+        """Files of items that are no JSON, or too large, or not there. What is right before a fault
+        is printed."""
         style = f"{STYLES}/author_year.csl"
         for content, why in FILES:
             given = self.read(self.file("items.json", content))
@@ -255,9 +272,9 @@ class TrialTests:
             self.row(f"a list in {object}", self.faults(style, path), (0, OF_BOOK, []))
         path = self.file("items.json", b" " * 33_000_000)
         large = "more than 32 MB: take fewer items"
-        for file, why in (path, large), ("/dev/zero", large), (f"{path}.no", "No such file or directory"), \
-                (self.room, "Is a directory"):
-            self.row(f"the file {file}", self.faults(style, file), (2, "", [f"{file}: {why}"]))
+        for it, why in ((path, large), ("/dev/zero", large), (self.room, "Is a directory"),
+                        (f"{path}.no", "No such file or directory")):
+            self.row(f"the file {it}", self.faults(style, it), (2, "", [f"{it}: {why}"]))
         told = ["no.csl: No such file or directory"]
         self.row("no style", self.faults("no.csl"), (2, "", told))
 
@@ -270,25 +287,31 @@ class TrialTests:
         """Words that the tool refuses, and its help."""
         example = "; for example: tools/try apa.csl items.json --html list.html"
         for words, why in WORDS:
-            self.row(f"the words {words}", self.tried(*words), (2, "", [f"tools/try: {why}{example}"]))
+            self.row(f"the words {words}", self.tried(*words),
+                     (2, "", [f"tools/try: {why}{example}"]))
         self.row("--help of tools/try", self.tried("--help")[::2], (0, []))
         for words in ["--help"], [f"{STYLES}/footnotes.csl"]:
             given = ran_on_full_disk([f"{TOP}/tools/try", *words])
-            self.row(f"a full disk: tools/try {words}", given, (1, "tools/try: No space left on device"))
+            self.row(f"a full disk: tools/try {words}", given,
+                     (1, "tools/try: No space left on device"))
 
     def test_locales(self) -> None:
         """The language of the library that the style names, another one, and that of a file."""
-        style, path = f"{STYLES}/bracketed.csl", self.file("items.json", json.dumps([{**BOOK, "edition": 2}]))
-        for words, wanted in ([], "2nd ed."), (["--locale", "de-DE"], "2. Aufl."), (["--locale=fr"], "2ᵉ éd."), \
-                (["--locale", "tools/style_tests/fr.xml"], "2e éd."):
+        style = f"{STYLES}/bracketed.csl"
+        path = self.file("items.json", json.dumps([{**BOOK, "edition": 2}]))
+        for words, wanted in (([], "2nd ed."), (["--locale", "de-DE"], "2. Aufl."),
+                              (["--locale=fr"], "2ᵉ éd."),
+                              (["--locale", "tools/style_tests/fr.xml"], "2e éd.")):
             line = self.faults(style, path, *words)[1].splitlines()[-1]
             self.row(f"a language: {words}", line, f"  [1] Ode, T, {wanted}, 2014.")
-        why = f"da-DK: the library has {', '.join(library.languages())}: of another language give the locale's file"
+        why = f"da-DK: the library has {', '.join(library.languages())}: of another language " \
+            "give the locale's file"
         self.row("no such language", self.faults(style, path, "--locale", "da-DK"), (2, "", [why]))
 
     def test_sorted(self) -> None:
-        """The order of a style: by names without accents, then by dates. What has no key comes last."""
-        works = [("Zuse", 1), ("Östlund", 2), ("Ødegård", 2), ("Oster", 2019), ("Oster", 2001), ("", 3)]
+        """The order of a style: by names without accents, then by dates, and without a key."""
+        works = [("Zuse", 1), ("Östlund", 2), ("Ødegård", 2), ("Oster", 2019), ("Oster", 2001),
+                 ("", 3)]
         items = [{**BOOK, "id": f"{name}{year}", "author": [{"family": name}] if name else [],
                   "issued": {"date-parts": [[year]]}, "title": ""} for name, year in works]
         wanted = ["Ødegård2", "Oster2001", "Oster2019", "Östlund2", "Zuse1", "3"]
@@ -300,35 +323,42 @@ class TrialTests:
 
     def test_cites(self) -> None:
         """The citations of a document, and what is wrong with some."""
-        works = [{**BOOK, "id": "a"}, {**BOOK, "id": "b", "author": [{"family": "Poe"}], "issued": "2015"}]
+        works = [{**BOOK, "id": "a"},
+                 {**BOOK, "id": "b", "author": [{"family": "Poe"}], "issued": "2015"}]
         words = [f"{STYLES}/author_year.csl", self.items(works), "--cites"]
         path = self.file("cites.json", json.dumps([citation for citation, _ in CITES]))
         status, text, faults = self.tried(*words, path)
         cited, _, listed = text.partition("\n\n")
         given = re.findall(r"^(?:[ab](?:, [ab])*|\(no cites\))\n?((?:  .*)?)", cited, re.M)
-        self.row("cites", (status, [line.strip() for line in given], faults), (0, [text for _, text in CITES], []))
+        self.row("cites", (status, [it.strip() for it in given], faults),
+                 (0, [text for _, text in CITES], []))
         self.row("the list after cites", listed, "a\n  Ode (2014). T.\nb\n  Poe (2015). T.\n")
         path = self.file("cites.json", json.dumps([citation for citation, _ in WRONG_CITES]))
         told = [f"{path}: citation {place}: {why}" for place, (_, why) in enumerate(WRONG_CITES, 1)]
         self.row("wrong cites", citations_of(path, {"a", "b"})[1], told)
         status, text, faults = self.faults(*words, path)
-        self.row("wrong cites are told", (status, faults, text[-19:]), (1, told, "b\n  Poe (2015). T.\n"))
-        for content, why in ("{", "no JSON: Expecting property name enclosed in double quotes: line 1 column 2 (char 1)"), \
-                ("{}", 'no list of citations, as [[{"id": "kwan"}]]'):
+        self.row("wrong cites are told", (status, faults, text[-19:]),
+                 (1, told, "b\n  Poe (2015). T.\n"))
+        no_json = "no JSON: Expecting property name enclosed in double quotes: line 1 column 2 " \
+            "(char 1)"
+        for content, why in ("{", no_json), ("{}", 'no list of citations, as [[{"id": "kwan"}]]'):
             path = self.file("cites.json", content)
-            self.row(f"the citations {content}", self.faults(*words, path), (2, "", [f"{path}: {why}"]))
+            self.row(f"the citations {content}", self.faults(*words, path),
+                     (2, "", [f"{path}: {why}"]))
 
     def test_more(self) -> None:
-        """What is left out: one line, or each thing in its own. A term is told if the library does not name it, and not
-        if no locale has it."""
-        terms = "".join(f'<text term="{term}"/>' for term in ("author", "hook", "page"))
+        """What is left out: one line, or each thing in its own. A term is told if the library does
+        not name it, and not if no locale has it."""
+        terms = "".join(f'<text term="{it}"/>' for it in ("author", "hook", "page"))
         style = self.file("titles.csl", OF_TITLES.replace(TITLE, TITLE + terms))
         path = self.file("items.json", json.dumps([{**BOOK, "title": "<b>T</b>", "titel": 1}]))
         told = self.tried(style, path)
-        wanted = (1, "b\n  Tpage\n", [f"{style}: left out: 3 things, in 3 places (--more says what)"])
+        wanted = (1, "b\n  Tpage\n",
+                  [f"{style}: left out: 3 things, in 3 places (--more says what)"])
         self.row("one line", told, wanted)
         told = self.tried(style, path, "--more")[2]
-        wanted = [UNPROVED, "words are missing that the library has no term for: 1 place (the term `hook`)",
+        wanted = [UNPROVED,
+                  "words are missing that the library has no term for: 1 place (the term `hook`)",
                   "markup inside of titles is dropped: 1 place (markup in texts)",
                   f"{path}:1: b: `titel`: the variable is unknown (is it `title`?)"]
         self.row("each thing", sorted(told), sorted(wanted))
@@ -342,17 +372,20 @@ class TrialTests:
         text = read(file)
         self.row("a page is written", (status, faults), (0, []))
         self.row("no script on the page", "<script" in text, False)
-        self.row("the links of the page", re.findall('href="(.*?)"', text), ["https://example.org/"])
+        self.row("the links of the page", re.findall('href="(.*?)"', text),
+                 ["https://example.org/"])
         self.row("the lines of the page", text.count('<div class="entry hanging">'), 2)
         self.row("the title of the page", re.findall("<h1>(.*)</h1>", text), ["Author and year"])
         self.tried(f"{STYLES}/bracketed.csl", "--html", file)
         self.row("numbers beside lines", read(file).count('<div class="entry columns"><div>['), 8)
-        self.row("a width of numbers", "first-child { flex: none; min-width: 3ch;" in read(file), True)
+        self.row("a width of numbers", "first-child { flex: none; min-width: 3ch;" in read(file),
+                 True)
         self.tried(f"{STYLES}/bracketed.csl", "--list", "--html", file)
         self.row("the list alone", re.findall("<h2>(.*)</h2>", read(file)), ["References"])
-        for path, why in ("/dev/full", "No space left on device"), (f"{self.room}/no/no", "No such file or directory"):
-            told = self.faults(f"{STYLES}/bracketed.csl", "--html", path)
-            self.row(f"the page {path}", (told[0], told[2]), (2, [f"{path}: {why}"]))
+        for it, why in (("/dev/full", "No space left on device"),
+                        (f"{self.room}/no/no", "No such file or directory")):
+            told = self.faults(f"{STYLES}/bracketed.csl", "--html", it)
+            self.row(f"the page {it}", (told[0], told[2]), (2, [f"{it}: {why}"]))
 
     def test_hostile_page(self) -> None:
         """The page of a work that turns the direction of writing, with the rules of page.rt."""
@@ -361,19 +394,23 @@ class TrialTests:
         self.tried(f"{STYLES}/bracketed.csl", path, "--html", file)
         head, _, body = read(file).partition("<body>\n")
         self.row("a hostile page", body, f"{HOSTILE_BODY}</body>\n</html>\n")
-        self.row("the rules of page.rt", ["overflow: clip" in rules(), rules() in head], [True, True])
+        self.row("the rules of page.rt", ["overflow: clip" in rules(), rules() in head],
+                 [True, True])
 
     def test_hostile_items(self) -> None:
-        """What has no shape in an item or in a style is written by its number, and no line is forged."""
+        """What has no shape in an item or a style is written by its number; no line is forged."""
         hostile = "a\x1b[31m\u202e\nb.json:1: forged"
         shown = r"a [31m\u{202e} b.json:1: forged"
-        items = [{**BOOK, "id": hostile, "title": hostile}, {**BOOK, "id": f"{hostile}2", hostile: 1},
+        items = [{**BOOK, "id": hostile, "title": hostile},
+                 {**BOOK, "id": f"{hostile}2", hostile: 1},
                  {**BOOK, "title": "\ud800"}]
         status, text, faults = self.of_items(items)
         self.row("a hostile item", (status, text.splitlines()[0]), (1, shown))
-        self.row("a hostile variable", faults, [f":9: {shown}2: `{shown}`: the variable is unknown"])
+        self.row("a hostile variable", faults,
+                 [f":9: {shown}2: `{shown}`: the variable is unknown"])
         self.row("half of a character", text.splitlines()[-1], "  Ode (2014). \ufffd.")
-        self.row("no control characters", set(re.findall("[\0-\x1f\x7f-\x9f\u202e\u2028]", text)), {"\n"})
+        self.row("no control characters", set(re.findall("[\0-\x1f\x7f-\x9f\u202e\u2028]", text)),
+                 {"\n"})
 
     def test_hostile_sizes(self) -> None:
         """Files that cost the most, each of which may cost five seconds of a core."""
@@ -387,7 +424,8 @@ class TrialTests:
                 for line in range(18, 28)]
         self.row("long names", self.cheap(style, path), (1, OF_BOOK, told))
         for macros, text in (DOUBLED, '<text macro="m0"/>'), ("", '<text term="in"/>' * 3_000):
-            path = self.file("hostile.csl", OF_TITLES.replace("<citation>", f"{macros}<citation>").replace(TITLE, text))
+            costly = OF_TITLES.replace("<citation>", f"{macros}<citation>").replace(TITLE, text)
+            path = self.file("hostile.csl", costly)
             told = [f"{path}:1: the style renders more than is allowed"]
             self.row(f"a costly style: {text[:50]}", self.cheap(path), (2, "", told))
 
@@ -396,41 +434,48 @@ class TrialTests:
         return self.faults(*words, seconds=5)
 
     def test_compare_pandoc(self) -> None:
-        """tools/compare_pandoc over a pandoc that prints what `tools/try` prints, but for the case of a citation, and
-        for a citation and a line."""
+        """tools/compare_pandoc over a pandoc that prints what `tools/try` prints, but for the case
+        of a citation, and for a citation and a line."""
         folder, style = "tools/pandoc_tests", f"{STYLES}/bracketed.csl"
         text = self.tried(style, f"{folder}/works.json", "--cites", f"{folder}/document.json")[1]
         cites, lines = (re.findall(r"^(\S.*)\n  (.*)$", part, re.M) for part in text.split("\n\n"))
         cites[0], cites[5] = (cites[0][0], "[other]"), (cites[5][0], cites[5][1].upper())
         lines[2] = (lines[2][0], "other")
-        blocks = [{"t": "Cite", "c": [[], [{"t": "Str", "c": cite}]]} for _, cite in cites]
-        entries = [{"t": "Div", "c": [[f"ref-{name}"], [{"t": "Str", "c": line}]]} for name, line in lines]
+        blocks = [{"t": "Cite", "c": [[], [{"t": "Str", "c": it}]]} for _, it in cites]
+        entries = [{"t": "Div", "c": [[f"ref-{name}"], [{"t": "Str", "c": it}]]}
+                   for name, it in lines]
         blocks.append({"t": "Div", "c": [["refs"], entries]})
-        pandoc = self.file("bin/pandoc", f"#!/bin/sh\ncat {self.file('blocks.json', json.dumps({'blocks': blocks}))}\n")
+        printed = self.file("blocks.json", json.dumps({"blocks": blocks}))
+        pandoc = self.file("bin/pandoc", f"#!/bin/sh\ncat {printed}\n")
         os.chmod(pandoc, 0o755)
         path = {**os.environ, "PATH": f"{self.room}/bin:{os.environ['PATH']}"}
-        causes = self.file("causes", f"pandoc: another\n  bracketed line {lines[2][0]}\n  bracketed citation 7\n")
+        places = f"  bracketed line {lines[2][0]}\n  bracketed citation 7\n"
+        causes = self.file("causes", f"pandoc: another\n{places}")
         status, text, _ = ran(["tools/compare_pandoc", style, "--causes", causes], env=path)
         counts = "17 of 18 lines (17 exactly), 15 of 16 citations (14 exactly)"
         wanted = ["Equal but for case:", f"bracketed: {counts}", f"all: {counts}",
-                  "0 lines, 1 citations: without a cause", "1 lines, 0 citations: pandoc: another", "",
+                  "0 lines, 1 citations: without a cause", "1 lines, 0 citations: pandoc: another",
+                  "",
                   "bracketed: citation 1", "  pandoc [other]", "  here   [1]",
                   "nothing differs at bracketed citation 7 (pandoc: another)"]
         self.row("differences from pandoc", (status, text.splitlines()), (1, wanted))
 
     def test_compare_csl(self) -> None:
-        """tools/compare_csl over made-up tests: one is equal, one differs, one differs by a cause, and one is not
-        taken. Two causes are of tests that do not differ."""
-        works = [{"id": title, "type": "book", "title": title} for title in "TU"]
-        wanted = {"one": "<i>T</i>; <i>U</i>", "two": "<b>T</b>; <i>U</i>", "three": "T", "four": "<i>T</i>"}
+        """tools/compare_csl over made-up tests: one is equal, one differs, one differs by a cause,
+        and one is not taken. Two causes are of tests that do not differ."""
+        works = [{"id": it, "type": "book", "title": it} for it in "TU"]
+        wanted = {"one": "<i>T</i>; <i>U</i>", "two": "<b>T</b>; <i>U</i>", "three": "T",
+                  "four": "<i>T</i>"}
         for name, result in wanted.items():
             parts = {"MODE": "citation", "RESULT": result, "CSL": OF_TITLES,
                      "INPUT": json.dumps(works if name != "four" else works[:1])}
-            text = "\n\n".join(f">>== {section} ==>>\n{part}\n<<== {section} ==<<" for section, part in parts.items())
+            text = "\n\n".join(f">>== {it} ==>>\n{part}\n<<== {it} ==<<"
+                               for it, part in parts.items())
             path = self.file(f"official/{name}.txt", text)
         causes = self.file("causes", "csl: another\n  three four\nlist: a fault\n  one\n")
         status, text, _ = ran(["tools/compare_csl", os.path.dirname(path), "--causes", causes])
-        wanted = ["4 tests, 3 taken: 1 equal", "1 not taken: (needs no document)", "1 differ: csl: another",
+        wanted = ["4 tests, 3 taken: 1 equal", "1 not taken: (needs no document)",
+                  "1 differ: csl: another",
                   "1 differ: without a cause", "", "two:", "  CSL  {bold}T{}; {italic}U",
                   "  here {italic}T{}; {italic}U", "nothing differs at four (csl: another)",
                   "nothing differs at one (list: a fault)"]
@@ -456,7 +501,8 @@ class TrialTests:
         self.file("out/unproved-0", "of older sources")
         self.file(f"{os.path.relpath(file, self.room)}.1", "of another call")
         kept, name = reader.keep("/bin/true", reader.sums()), os.path.basename(file)
-        self.row("kept at once", (kept, sorted(os.listdir(reader.out))), (True, [name, f"{name}.1"]))
+        self.row("kept at once", (kept, sorted(os.listdir(reader.out))),
+                 (True, [name, f"{name}.1"]))
 
     def test_many(self) -> None:
         """Many items, whose cost may not grow with the square of their number."""
@@ -464,7 +510,8 @@ class TrialTests:
         self.row("many items are read", len(self.read(self.file("many.json", many))[0]), 20_000)
         path = self.file("many.json", json.dumps([{**BOOK, "id": place} for place in range(1_000)]))
         status, text, _ = self.tried(f"{STYLES}/author_year.csl", path, seconds=5)
-        self.row("many items are printed", (status, len(re.findall(r"\n  Ode \(2014\w+\)\. T\.", text))), (0, 1_000))
+        self.row("many items are printed",
+                 (status, len(re.findall(r"\n  Ode \(2014\w+\)\. T\.", text))), (0, 1_000))
 
     def all_of_trials(self) -> None:
         """All of these tests."""

@@ -17,7 +17,7 @@ import tempfile
 import time
 from typing import Any, Callable, Iterable, NamedTuple
 
-from kit import TARGET, TOP, Failure, kit, read, status_of, words_of_try
+from kit import TARGET, TOP, Failure, kit, read, status_of, words_of_try, write
 
 
 def checked(words: list[str]) -> None:
@@ -59,12 +59,10 @@ def lay_out(folder: str, room: str, commit: str | None = None, sources: str | No
     for source in shared if os.path.exists(f"{to}/crates/{name}/shares") else []:
         unpack([f"{place}/{source}.rs"], sources, to,
                [f"s,^{place}/,crates/{name}/src/{module}/,", r"s,\.rs$,.rt,"])
-        with open(f"{to}/crates/{name}/src/{module}/{source}.rt", "r+", encoding="utf-8") as text:
-            moved = text.read().replace("crate::", f"crate::{module}::")
-            text.seek(0)
-            text.write(moved)
-    with open(f"{to}/crates/{name}/uses") as uses, open(f"{to}/crates.txt", "a") as crates:
-        crates.write(f"{name}: {uses.read()}")
+        file = f"{to}/crates/{name}/src/{module}/{source}.rt"
+        write(file, read(file).replace("crate::", f"crate::{module}::"))
+    uses = read(f"{to}/crates/{name}/uses")
+    write(f"{to}/crates.txt", f"{read(f'{to}/crates.txt')}{name}: {uses}")
     return f"{to}/crates/{name}"
 
 
@@ -75,10 +73,9 @@ def formatted(folder: str, crate: str) -> dict[str, str]:
     texts = {}
     for file in glob.glob(f"{TOP}/{folder}/src/**/*.rs", recursive=True):
         laid_out = f"{crate}/{os.path.relpath(file, f'{TOP}/{folder}')}"
-        with open(file) as old, open(f"{laid_out.removesuffix('.rs')}.rt") as new:
-            text = new.read()
-            if old.read() != text:
-                texts[file] = text
+        text = read(f"{laid_out.removesuffix('.rs')}.rt")
+        if read(file) != text:
+            texts[file] = text
     return texts
 
 
@@ -184,8 +181,7 @@ def main() -> int:
         with tempfile.TemporaryDirectory() as room:
             folder = os.path.relpath(os.path.realpath(given), TOP)
             for file, text in formatted(folder, lay_out(folder, room)).items():
-                with open(file, "w") as source:
-                    source.write(text)
+                write(file, text)
     return 0
 
 

@@ -15,7 +15,7 @@ from dataclasses import dataclass, field
 from typing import Iterable, Iterator
 
 from kit import TOP, Failure, read
-from sources import function_around
+from sources import ABOVE, function_around, parts_of_block
 
 # What is said of a proof file that names what an edit took away: it shows nothing of the contract.
 LOST_NAME = r"has no field|is not in scope|has no `|was not admitted"
@@ -141,11 +141,8 @@ def words_of_type(text: str, own: set[str], between: str) -> str:
 def owner(head: str) -> str:
     """The name that rt gives to the block of an `impl` or `trait` line: NumericPut for `impl Put
     for Numeric {`, AnyPut for `impl<T: Number> Put for T {`."""
-    parts = r"(?:pub )?(?:impl|trait)(<(?:->|[^<>]|<[^<>]*>)*>)? (?:(\S.*) for )?([^{]*)"
-    split = re.match(parts, head)
-    if not split:
-        raise Failure(f"this is no head of a block: {head}")
-    own, of_trait, of_type = parameters_in(split[1] or ""), split[2] or "", split[3]
+    parameters, of_trait, of_type = parts_of_block(head)
+    own = parameters_in(parameters)
     of_whom = "Any" if of_type.strip() in own else words_of_type(of_type, own, "+")
     return of_whom + words_of_type(of_trait, own, "")
 
@@ -156,10 +153,13 @@ def function_at(name: str, file: str, text: str, at: int) -> tuple[str, str]:
     found = function_around(text, at)
     if not found:
         return "", ""
-    module = [part for part in file.removesuffix(".rt").split("/")[1:]
-              if part not in ("lib", "main")]
-    path = [owner(found.block())] if found.indent else [name, *module]
+    path = [owner(found.around.head())] if found.around else [name, *module_path(file)]
     return "::".join([*path, found.name]), found.cycle()
+
+
+def module_path(file: str) -> list[str]:
+    """The path of the module that a source of a crate is."""
+    return [it for it in file.removesuffix(".rt").split("/")[1:] if it not in ("lib", "main")]
 
 
 def goal_at(file: str, line: int) -> str:
@@ -290,7 +290,7 @@ class Check:
         told at the first of its attributes."""
         text = self.texts.get(file, "")
         lines = text.split("\n")
-        while line < len(lines) and re.match(r" *(?:#\[|//)", lines[line - 1]):
+        while line < len(lines) and ABOVE.match(lines[line - 1]):
             line += 1
         end = len("\n".join(lines[:line]))
         return function_at(self.name, file, text, end)[0]

@@ -13,9 +13,9 @@ import re
 import shutil
 from dataclasses import dataclass
 
-from kit import read
-from sources import Function, function_around, functions_of
-from wrong_bodies import Edit, function_at
+from kit import read, write
+from sources import Item, function_around, functions_of, impl_of
+from wrong_bodies import Edit, function_at, module_path
 
 CONTROL = "as_it_is"
 
@@ -40,12 +40,12 @@ class Source:
     """A function in a file of a crate, and its name as rt prints it."""
 
     file: str
-    found: Function
+    found: Item
     function: str
 
     def text(self) -> str:
         """The text from its head to its end."""
-        return self.found.file[self.found.start:self.found.end] + "\n"
+        return self.found.text + "\n"
 
     def attributes(self) -> str:
         """The lines of its attributes, without those that only a function in a cycle has."""
@@ -54,7 +54,8 @@ class Source:
 
     def is_of_trait(self) -> bool:
         """Whether it is a method of a trait."""
-        return bool(re.match(r"(?:pub )?trait\b|impl.* for ", self.found.block()))
+        around = self.found.around
+        return around is not None and (around.kind == "trait" or bool(impl_of(around)[0]))
 
 
 def sources_of(edit: Edit) -> list[tuple[Source, list[tuple[str, str]]]]:
@@ -84,10 +85,11 @@ def clauses_of(crate: str, of_trait: str, method: str) -> tuple[str, str]:
     for file in glob.glob(f"{crate}/src/**/*.rt", recursive=True):
         text = read(file)
         for found in functions_of(text):
-            is_declared = re.search(rf"\btrait {of_trait}\b", found.block())
-            clauses = re.search(r"\b(?:requires|ensures)\b", text[found.start:found.body])
+            around, body = found.around, found.body()
+            is_declared = around and (around.kind, around.name) == ("trait", of_trait)
+            clauses = re.search(r"\b(?:requires|ensures)\b", text[found.start:body])
             if found.name == method and is_declared and clauses:
-                return text[found.start + clauses.start():found.body], text
+                return text[found.start + clauses.start():body], text
     return "", ""
 
 
@@ -121,24 +123,23 @@ def names_lacking(text: str, other: str, clauses: str) -> str:
 def method_of(source: Source, crate: str, known: str = "") -> tuple[str, str]:
     """A method of a trait as a function, its head with `this` for `self` and the clauses of the
     trait, and the lines that these need besides known ones; or empty texts, if it has no copy."""
-    found = source.found
-    block = re.fullmatch(r"impl(?:<(.*)>)? (\w+) for ([\w<>]+) \{", found.block())
-    path = source.function.replace("::", "/")
-    if found.cycle() or not block or glob.glob(f"{crate}/proofs/**/{path}/", recursive=True):
+    found, around = source.found, source.found.around
+    block = around and re.fullmatch(r"impl(?:<(.*)>)? (\w+) for ([\w<>]+)", around.head())
+    own_proofs = f"{crate}/proofs/**/{source.function.replace('::', '/')}/"
+    if not around or not block or found.cycle() or glob.glob(own_proofs, recursive=True):
         return "", ""
     head = r" *fn (\w+)(?:<(.*?)>)?\(\s*&('\w+ )?(mut )?self([^{]*) \{\n"
     own = re.match(head, source.text())
     clauses, other = clauses_of(crate, block[2], found.name)
     if not own or not clauses:
         return "", ""
-    within = found.file[found.file.rindex(found.block(), 0, found.start):found.start]
     parts = (own[2] or "").split(", ")
     generics = [*(it for it in parts if it.startswith("'")), *filter(None, [block[1]]),
                 *(it for it in parts if it and not it.startswith("'"))]
     given = f"<{', '.join(generics)}>" if generics else ""
     head = f"fn {own[1]}{given}(this: &{own[3] or ''}{own[4] or ''}{block[3]}{own[5]}"
     body = source.text()[own.end():].removesuffix("    }\n")
-    text = f"{head}\n    {written_out(clauses, within)}\n{{\n{body}}}\n"
+    text = f"{head}\n    {written_out(clauses, around.text)}\n{{\n{body}}}\n"
     return re.sub(r"\bself\b", "this", text), names_lacking(known + found.file, other, clauses)
 
 
@@ -163,8 +164,7 @@ def rename(folder: str, old: str, new: str) -> None:
         text = read(file)
         for part in ("Goals", "Given"):
             text = text.replace(f"{old}{part}", f"{new}{part}")
-        with open(file, "w", encoding="utf-8") as proofs:
-            proofs.write(text)
+        write(file, text)
 
 
 def copy_proofs(proofs: str, path: str, name: str) -> None:
@@ -187,9 +187,7 @@ def copy_proofs_of_cycle(proofs: str, path: str, cycle: str, name: str) -> None:
         around = os.path.relpath(os.path.dirname(os.path.dirname(file)), proofs)
         inner = os.path.dirname(found[1].replace("::", "/"))
         to = os.path.normpath(f"{proofs}/{around}/{inner}/{name}")
-        os.makedirs(to, exist_ok=True)
-        with open(f"{to}/{os.path.basename(file)}", "w", encoding="utf-8") as answers:
-            answers.write(own_answers(text, found[1]))
+        write(f"{to}/{os.path.basename(file)}", own_answers(text, found[1]))
         module = os.path.relpath(to, proofs).replace("/", ".")
         own = os.path.relpath(os.path.dirname(file), proofs).replace("/", ".")
         rename(to, f".proofs.{own}.", f".proofs.{module}.")
@@ -219,8 +217,7 @@ class Copies:
             text, lines = method_of(Source(source.file, edited or found, source.function),
                                     self.folder, known)
             self.lines[source.file] = known + lines
-            module = source.file.removesuffix(".rt").split("/")[1:]
-            around = "::".join([self.crate, *(it for it in module if it not in ("lib", "main"))])
+            around = "::".join([self.crate, *module_path(source.file)])
             end = len(whole)
         text = re.sub(rf"\bfn {own}\b", f"fn {name}", text, count=1)
         self.texts[source.file] = whole

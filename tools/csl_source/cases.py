@@ -1,4 +1,4 @@
-"""The text cases of a style: as marks in affixes, which `csl_finish` takes for them, or left out."""
+"""The text cases of a style: as marks in affixes, which `csl_finish` takes, or left out."""
 from typing import Any
 
 from sulleqti.document import RESERVED
@@ -11,8 +11,8 @@ MARK = RESERVED
 
 
 def marked(value: Any) -> Any:
-    """A value of JSON with the marks of its cases: the prefix of a node ends with one, and the suffix
-    begins with the other."""
+    """A value of JSON with the marks of its cases: the prefix of a node ends with one, and the
+    suffix begins with the other."""
     if isinstance(value, list):
         return [marked(part) for part in value]
     if not isinstance(value, dict):

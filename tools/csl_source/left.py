@@ -14,7 +14,8 @@ SEEN = (
     ("words that keep their case have that of the text around them", "`nocase` in texts"),
     ("names are sorted as they print", "`names-(min|use-first|use-last)` of a `key` by a variable"),
     ("texts before and after names are missing", "affixes of `name`"),
-    ("texts before and after a part are formatted like the part", "affixes outside of the formatting"),
+    ("texts before and after a part are formatted like the part",
+     "affixes outside of the formatting"),
     ("slanted text is italic", "`font-style` oblique .*"),
     ("names are in the order of the style", "`static-ordering`"),
     ("line breaks and other control characters are spaces", "line breaks .*"),
@@ -36,14 +37,15 @@ def places(count: int) -> str:
 
 
 def lines(left: collections.Counter) -> list[str]:
-    """A line for each thing that is seen, with how often it is there and its names in CSL. What matters first
-    comes first."""
+    """A line for each thing that is seen, with how often it is there and its names in CSL. What
+    matters first comes first."""
     found, rest = [], {name: count for name, count in left.items() if count}
     for seen, names in (*SEEN, ("left out", ".*")):
         own = {name: count for name, count in rest.items() if re.fullmatch(names, name, re.DOTALL)}
         if own:
             rest = {name: count for name, count in rest.items() if name not in own}
-            names = [*own][:MOST_NAMES] + [f"and {len(own) - MOST_NAMES} more"] * (len(own) > MOST_NAMES)
+            more = len(own) - MOST_NAMES
+            names = [*own][:MOST_NAMES] + [f"and {more} more"] * (more > 0)
             found.append(f"{seen}: {places(sum(own.values()))} ({', '.join(names)})")
     return found
 

@@ -6,7 +6,8 @@ import json
 import os
 import re
 
-from kit import TOP, read
+from kit import TOP, read, uses_of_crates
+from sources import items_in, texts_of
 from sulleqti.names import OTHER_SPELLINGS
 
 VARIABLES = ("StandardVariable", "NumberVariable", "PageVariable", "DateVariable", "NameVariable")
@@ -23,23 +24,20 @@ NAMED = (*VARIABLES, "Kind", "OtherTerm", "Locator", "FontStyle", "FontVariant",
 def sources() -> list[str]:
     """The texts of `csl_style`, of the crates that it stands on, and of `csl_list`, in this
     order."""
-    with open(f"{TOP}/crates.txt", encoding="utf-8") as lines:
-        below = next(line.split(":")[1].split() for line in lines if line.startswith("csl_style:"))
-    texts = []
-    for crate in ["csl_style", *below, "csl_list"]:
-        for path in sorted(glob.glob(f"{TOP}/crates/{crate}/src/**/*.rt", recursive=True)):
-            texts.append(read(path))
-    return texts
+    crates = ["csl_style", *uses_of_crates()["csl_style"], "csl_list"]
+    return [text for crate in crates for _, text in texts_of(TOP, crate)]
 
 
 @functools.cache
-def body(head: str) -> str:
-    """The lines between the braces after this head, in the first source that has it."""
-    for text in sources():
-        found = re.search(rf"^ *{re.escape(head)}[^\n]*\{{\n(.*?)^\}}", text, re.M | re.S)
-        if found:
-            return found[1]
-    raise SystemExit(f"tools/style: no source of csl_style has `{head}`")
+def arms(enum: str) -> dict[str, str]:
+    """The variants of an enum, in the order of the library, each with the type that it holds, or an
+    empty text."""
+    items = (it for text in sources() if f"pub enum {enum} " in text for it in items_in(text))
+    for it in items:
+        if (it.kind, it.name) == ("enum", enum):
+            texts = ((arm.name, arm.text.strip()) for arm in it.members())
+            return {name: text.removeprefix(name).strip("(),") for name, text in texts}
+    raise SystemExit(f"tools/style: no source of csl_style has `pub enum {enum}`")
 
 
 def csl_name(variant: str) -> str:
@@ -73,8 +71,7 @@ def variants(enum: str) -> dict[str, str]:
     """The variants of an enum, by the names that its `name` writes, else by their names in CSL."""
     names = read_names().get(enum)
     if names is None:
-        arms = re.findall(r"^    (\w+),$", body(f"pub enum {enum} "), re.M)
-        names = {csl_name(it): f"{enum}::{it}" for it in arms}
+        names = {csl_name(it): f"{enum}::{it}" for it, held in arms(enum).items() if not held}
     for other, usual in OTHER_SPELLINGS.items():
         if variant := names.get(other) or names.get(usual):
             names = names | {other: variant, usual: variant}
@@ -93,7 +90,7 @@ def terms() -> dict[str, list[str]]:
     """What the library has for the name of a term. `page` is two terms here, one of a variable and
     one of a locator."""
     found: dict[str, list[str]] = {}
-    for sort, enum in re.findall(r"^    (\w+)\((\w+)\),$", body("pub enum Term "), re.M):
+    for sort, enum in arms("Term").items():
         for name, variant in (locators() if enum == "Locator" else variants(enum)).items():
             found.setdefault(name, []).append(f"Term::{sort}({variant})")
     return found

@@ -68,8 +68,8 @@ def values_of(path: str) -> Any:
 
 def citations_of(given: Union[str, Sequence[Any]], ids: Container[str]
                  ) -> Tuple[List[Citation], List[str]]:
-    """The citations of a file, or of a list, of works of these `ids`, and a line for each thing that
-    is wrong. A citation that is wrong is left out, and so is a cite of another work."""
+    """The citations of a file, or of a list, of works of these `ids`, and a line for each thing
+    that is wrong. A citation that is wrong is left out, and so is a cite of another work."""
     is_file = isinstance(given, str)
     values, begin = values_of(given) if is_file else given, f"{given}: " if is_file else ""
     if not isinstance(values, list):

@@ -3,7 +3,7 @@ from __future__ import annotations
 
 from typing import Any, Counter, Dict, List, NamedTuple, Sequence
 
-from sulleqti.attributes import AFFIXES, FORMATTING, NAME_OPTIONS, Attributes, Tree
+from sulleqti.attributes import AFFIXES, NAME_OPTIONS, Attributes, Tree
 from sulleqti.document import Node
 from sulleqti.names import OTHER_SPELLINGS, TERMS
 

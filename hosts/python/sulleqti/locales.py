@@ -4,7 +4,7 @@ from __future__ import annotations
 
 import os
 import re
-from typing import Iterator, List, Set, Tuple, Union
+from typing import Iterator, List, Set, Union
 
 from sulleqti.attributes import AFFIXES, Attributes, Tree
 from sulleqti.document import LANGUAGE, Node, Refused, document
