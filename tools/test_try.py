@@ -173,8 +173,8 @@ WRONG_CITES = [
 # Names of variables, each a megabyte long.
 LONG_NAMES = ["x" * 1_000_000 + str(place) for place in range(10)]
 # Macros that each call the next one twice.
-DOUBLED = "".join(f'<macro name="m{it}">{f"""<text macro="m{it + 1}"/>""" * 2}</macro>'
-                  for it in range(40))
+DOUBLED = "".join(f'<macro name="m{place}">{f"""<text macro="m{place + 1}"/>""" * 2}</macro>'
+                  for place in range(40))
 DOUBLED += '<macro name="m40"/>'
 UNPROVED = "tools/try: csl_serve is not proved here; ./test proves it"
 # Words that are wrong, and what is told of them.
@@ -220,8 +220,8 @@ class TrialTests:
             works, faults = works_of(path, collections.Counter())
         except Refused as why:
             works, faults = [], [str(why)]
-        told = [it.removeprefix(path).replace(path, "FILE") for it in faults]
-        return [it.id for it in works], told
+        told = [fault.removeprefix(path).replace(path, "FILE") for fault in faults]
+        return [work.id for work in works], told
 
     def of_items(self, items: list[dict[str, Any]], *words: str) -> tuple[int, str, list[str]]:
         """What is printed of these items, without year suffixes, and what is told of the file."""
@@ -272,9 +272,9 @@ class TrialTests:
             self.row(f"a list in {object}", self.faults(style, path), (0, OF_BOOK, []))
         path = self.file("items.json", b" " * 33_000_000)
         large = "more than 32 MB: take fewer items"
-        for it, why in ((path, large), ("/dev/zero", large), (self.room, "Is a directory"),
+        for file, why in ((path, large), ("/dev/zero", large), (self.room, "Is a directory"),
                         (f"{path}.no", "No such file or directory")):
-            self.row(f"the file {it}", self.faults(style, it), (2, "", [f"{it}: {why}"]))
+            self.row(f"the file {file}", self.faults(style, file), (2, "", [f"{file}: {why}"]))
         told = ["no.csl: No such file or directory"]
         self.row("no style", self.faults("no.csl"), (2, "", told))
 
@@ -330,7 +330,7 @@ class TrialTests:
         status, text, faults = self.tried(*words, path)
         cited, _, listed = text.partition("\n\n")
         given = re.findall(r"^(?:[ab](?:, [ab])*|\(no cites\))\n?((?:  .*)?)", cited, re.M)
-        self.row("cites", (status, [it.strip() for it in given], faults),
+        self.row("cites", (status, [line.strip() for line in given], faults),
                  (0, [text for _, text in CITES], []))
         self.row("the list after cites", listed, "a\n  Ode (2014). T.\nb\n  Poe (2015). T.\n")
         path = self.file("cites.json", json.dumps([citation for citation, _ in WRONG_CITES]))
@@ -349,7 +349,7 @@ class TrialTests:
     def test_more(self) -> None:
         """What is left out: one line, or each thing in its own. A term is told if the library does
         not name it, and not if no locale has it."""
-        terms = "".join(f'<text term="{it}"/>' for it in ("author", "hook", "page"))
+        terms = "".join(f'<text term="{term}"/>' for term in ("author", "hook", "page"))
         style = self.file("titles.csl", OF_TITLES.replace(TITLE, TITLE + terms))
         path = self.file("items.json", json.dumps([{**BOOK, "title": "<b>T</b>", "titel": 1}]))
         told = self.tried(style, path)
@@ -382,10 +382,10 @@ class TrialTests:
                  True)
         self.tried(f"{STYLES}/bracketed.csl", "--list", "--html", file)
         self.row("the list alone", re.findall("<h2>(.*)</h2>", read(file)), ["References"])
-        for it, why in (("/dev/full", "No space left on device"),
+        for path, why in (("/dev/full", "No space left on device"),
                         (f"{self.room}/no/no", "No such file or directory")):
-            told = self.faults(f"{STYLES}/bracketed.csl", "--html", it)
-            self.row(f"the page {it}", (told[0], told[2]), (2, [f"{it}: {why}"]))
+            told = self.faults(f"{STYLES}/bracketed.csl", "--html", path)
+            self.row(f"the page {path}", (told[0], told[2]), (2, [f"{path}: {why}"]))
 
     def test_hostile_page(self) -> None:
         """The page of a work that turns the direction of writing, with the rules of page.rt."""
@@ -441,9 +441,9 @@ class TrialTests:
         cites, lines = (re.findall(r"^(\S.*)\n  (.*)$", part, re.M) for part in text.split("\n\n"))
         cites[0], cites[5] = (cites[0][0], "[other]"), (cites[5][0], cites[5][1].upper())
         lines[2] = (lines[2][0], "other")
-        blocks = [{"t": "Cite", "c": [[], [{"t": "Str", "c": it}]]} for _, it in cites]
-        entries = [{"t": "Div", "c": [[f"ref-{name}"], [{"t": "Str", "c": it}]]}
-                   for name, it in lines]
+        blocks = [{"t": "Cite", "c": [[], [{"t": "Str", "c": cite}]]} for _, cite in cites]
+        entries = [{"t": "Div", "c": [[f"ref-{name}"], [{"t": "Str", "c": line}]]}
+                   for name, line in lines]
         blocks.append({"t": "Div", "c": [["refs"], entries]})
         printed = self.file("blocks.json", json.dumps({"blocks": blocks}))
         pandoc = self.file("bin/pandoc", f"#!/bin/sh\ncat {printed}\n")
@@ -463,14 +463,14 @@ class TrialTests:
     def test_compare_csl(self) -> None:
         """tools/compare_csl over made-up tests: one is equal, one differs, one differs by a cause,
         and one is not taken. Two causes are of tests that do not differ."""
-        works = [{"id": it, "type": "book", "title": it} for it in "TU"]
+        works = [{"id": title, "type": "book", "title": title} for title in "TU"]
         wanted = {"one": "<i>T</i>; <i>U</i>", "two": "<b>T</b>; <i>U</i>", "three": "T",
                   "four": "<i>T</i>"}
         for name, result in wanted.items():
             parts = {"MODE": "citation", "RESULT": result, "CSL": OF_TITLES,
                      "INPUT": json.dumps(works if name != "four" else works[:1])}
-            text = "\n\n".join(f">>== {it} ==>>\n{part}\n<<== {it} ==<<"
-                               for it, part in parts.items())
+            text = "\n\n".join(f">>== {section} ==>>\n{part}\n<<== {section} ==<<"
+                               for section, part in parts.items())
             path = self.file(f"official/{name}.txt", text)
         causes = self.file("causes", "csl: another\n  three four\nlist: a fault\n  one\n")
         status, text, _ = ran(["tools/compare_csl", os.path.dirname(path), "--causes", causes])

@@ -32,10 +32,10 @@ def sources() -> list[str]:
 def arms(enum: str) -> dict[str, str]:
     """The variants of an enum, in the order of the library, each with the type that it holds, or an
     empty text."""
-    items = (it for text in sources() if f"pub enum {enum} " in text for it in items_in(text))
-    for it in items:
-        if (it.kind, it.name) == ("enum", enum):
-            texts = ((arm.name, arm.text.strip()) for arm in it.members())
+    items = (part for text in sources() if f"pub enum {enum} " in text for part in items_in(text))
+    for item in items:
+        if (item.kind, item.name) == ("enum", enum):
+            texts = ((arm.name, arm.text.strip()) for arm in item.members())
             return {name: text.removeprefix(name).strip("(),") for name, text in texts}
     raise SystemExit(f"tools/style: no source of csl_style has `pub enum {enum}`")
 
@@ -71,7 +71,7 @@ def variants(enum: str) -> dict[str, str]:
     """The variants of an enum, by the names that its `name` writes, else by their names in CSL."""
     names = read_names().get(enum)
     if names is None:
-        names = {csl_name(it): f"{enum}::{it}" for it, held in arms(enum).items() if not held}
+        names = {csl_name(arm): f"{enum}::{arm}" for arm, held in arms(enum).items() if not held}
     for other, usual in OTHER_SPELLINGS.items():
         if variant := names.get(other) or names.get(usual):
             names = names | {other: variant, usual: variant}

@@ -4,7 +4,8 @@ from typing import Iterator
 
 from kit import read
 
-PUBLISHED, LOCALES = (f"/usr/share/citation-style-language/{it}" for it in ("styles", "locales"))
+PUBLISHED, LOCALES = (f"/usr/share/citation-style-language/{name}"
+                      for name in ("styles", "locales"))
 
 
 def causes_in(file: str) -> Iterator[tuple[str, list[str]]]:

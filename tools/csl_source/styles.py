@@ -89,7 +89,7 @@ class StyleFile:
                                                    "DemoteNonDroppingParticle")),
             ("initialize_with_hyphen", given(tree, "initialize-with-hyphen", "flag"))]
         steps: list[Step] = []
-        owners = {"names": tree, **{f"{it}_names": tree.get(it, {}) for it in LAYOUTS}}
+        owners = {"names": tree, **{f"{layout}_names": tree.get(layout, {}) for layout in LAYOUTS}}
         for name, owner in owners.items():
             options = name_options(owner)
             if options is not None:
