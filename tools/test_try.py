@@ -273,7 +273,7 @@ class TrialTests:
         path = self.file("items.json", b" " * 33_000_000)
         large = "more than 32 MB: take fewer items"
         for file, why in ((path, large), ("/dev/zero", large), (self.room, "Is a directory"),
-                        (f"{path}.no", "No such file or directory")):
+                          (f"{path}.no", "No such file or directory")):
             self.row(f"the file {file}", self.faults(style, file), (2, "", [f"{file}: {why}"]))
         told = ["no.csl: No such file or directory"]
         self.row("no style", self.faults("no.csl"), (2, "", told))
@@ -383,7 +383,7 @@ class TrialTests:
         self.tried(f"{STYLES}/bracketed.csl", "--list", "--html", file)
         self.row("the list alone", re.findall("<h2>(.*)</h2>", read(file)), ["References"])
         for path, why in (("/dev/full", "No space left on device"),
-                        (f"{self.room}/no/no", "No such file or directory")):
+                          (f"{self.room}/no/no", "No such file or directory")):
             told = self.faults(f"{STYLES}/bracketed.csl", "--html", path)
             self.row(f"the page {path}", (told[0], told[2]), (2, [f"{path}: {why}"]))
 
