@@ -97,14 +97,14 @@ first_et_al (an_et_al e ∷ cs) = Some e
 first_et_al (a_label l ∷ cs) = first_et_al cs
 first_et_al (a_substitute ns ∷ cs) = first_et_al cs
 
--- The first label is after the names if a name child comes before it; `behind` is whether one came
--- already.
+-- The first label is after the names if a name child comes before it; `seen_name` is whether one
+-- came already.
 abbrev pub first_label : Bool → List NamesChildView → Option NamesLabel
-first_label behind [] = None
-first_label behind (a_name n ∷ cs) = first_label true cs
-first_label behind (an_et_al e ∷ cs) = first_label behind cs
-first_label behind (a_label l ∷ cs) = Some (record { label = l; is_after = behind })
-first_label behind (a_substitute ns ∷ cs) = first_label behind cs
+first_label seen_name [] = None
+first_label seen_name (a_name n ∷ cs) = first_label true cs
+first_label seen_name (an_et_al e ∷ cs) = first_label seen_name cs
+first_label seen_name (a_label l ∷ cs) = Some (record { label = l; is_after = seen_name })
+first_label seen_name (a_substitute ns ∷ cs) = first_label seen_name cs
 
 abbrev pub substitutes : List NamesChildView → Substitutes
 substitutes [] = no_substitutes

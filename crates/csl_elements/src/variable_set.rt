@@ -44,7 +44,7 @@ impl VariableSet {
     }
 
     /// The set of all variables.
-    pub fn all() -> VariableSet
+    pub fn full() -> VariableSet
         ensures { (v : Variable) → spec.has result v ≡ true }
     {
         VariableSet { places: u128::MAX }
@@ -97,7 +97,7 @@ impl VariableSet {
     pub fn is_empty(self) -> bool
         ensures { IsTrue result ↔ (spec.has self ≡ spec.no_variables) }
     {
-        self.is_alike_on(VariableSet::all(), VariableSet::new())
+        self.is_alike_on(VariableSet::full(), VariableSet::new())
     }
 
     /// Adds the variable to an ordered set, if this set has it.

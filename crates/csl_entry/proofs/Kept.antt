@@ -31,7 +31,7 @@ use Rattle.csl_elements.specs.contracts.taxonomy.DateVariablePartialEq.TheImpl.{
 use Rattle.csl_elements.specs.contracts.taxonomy.KindPartialEq.TheImpl.{eq-value as eq_kind}
 use Rattle.csl_entry.specs.Alike.{SameAnswer, SameNamedAnswers, Each}
 use Rattle.csl_entry.specs.Answers.{Answers}
-use Rattle.csl_entry.specs.Snapshot.{paired, keyed, kept_answers, answer_at, some_persons, persons_or_none, snapshot_of, kept_in, no_answers}
+use Rattle.csl_entry.specs.Snapshot.{paired, keyed, kept_answers, answer_at, unless_empty, persons_or_none, snapshot_of, kept_in, no_answers}
 use Rattle.csl_entry.proofs.AlikeSets.{is_equal, numbers_if, pages_if, standards_if, names_if, dates_if, kinds_if}
 
 -- ---- the views of what is kept
@@ -111,7 +111,7 @@ module _ {K : Type 0} (cmp : K → K → Ordering) (ordered : (a b : K) → (cmp
 pub kind_decides : (a b : Kind) → Decides (eq_kind.it a b) (a ≡ b)
 kind_decides a b = search rules
 
-persons_again : (ps : List PersonView) → persons_or_none (some_persons ps) ≡ ps
+persons_again : (ps : List PersonView) → persons_or_none (unless_empty ps) ≡ ps
 persons_again [] = refl
 persons_again (p ∷ ps) = refl
 
@@ -124,7 +124,7 @@ unfolding named_set
 alike_of n a (a_variable (variable.Number v)) h = answered cmp_number.it number_ordered eq_number.it number_decides a.numbers n.numbers.keys v h
 alike_of n a (a_variable (variable.Page v)) h = answered cmp_page.it page_ordered eq_page.it page_decides a.pages n.pages.keys v h
 alike_of n a (a_variable (variable.Standard v)) h = text_alike n a v h
-alike_of n a (a_variable (variable.Name v)) h = ap persons_or_none (answered cmp_name.it name_ordered eq_name.it name_decides (λ w. some_persons (a.names w)) n.names.keys v h) ∙ persons_again (a.names v)
+alike_of n a (a_variable (variable.Name v)) h = ap persons_or_none (answered cmp_name.it name_ordered eq_name.it name_decides (λ w. unless_empty (a.names w)) n.names.keys v h) ∙ persons_again (a.names v)
 alike_of n a (a_variable (variable.Date v)) h = answered cmp_date.it date_ordered eq_date.it date_decides a.dates n.dates.keys v h
 alike_of n a (a_kind k) h = pick cmp_kind.it kind_ordered eq_kind.it kind_decides a.kinds n.kinds.keys k ∙ ap (λ b. b && a.kinds k) h
 
@@ -137,7 +137,7 @@ unfolding named_set
 silent_of n a (a_variable (variable.Number v)) h = left_out cmp_number.it number_ordered eq_number.it number_decides a.numbers n.numbers.keys v h
 silent_of n a (a_variable (variable.Page v)) h = left_out cmp_page.it page_ordered eq_page.it page_decides a.pages n.pages.keys v h
 silent_of n a (a_variable (variable.Standard v)) h = text_silent n a v h
-silent_of n a (a_variable (variable.Name v)) h = ap persons_or_none (left_out cmp_name.it name_ordered eq_name.it name_decides (λ w. some_persons (a.names w)) n.names.keys v h)
+silent_of n a (a_variable (variable.Name v)) h = ap persons_or_none (left_out cmp_name.it name_ordered eq_name.it name_decides (λ w. unless_empty (a.names w)) n.names.keys v h)
 silent_of n a (a_variable (variable.Date v)) h = left_out cmp_date.it date_ordered eq_date.it date_decides a.dates n.dates.keys v h
 silent_of n a (a_kind k) h = pick cmp_kind.it kind_ordered eq_kind.it kind_decides a.kinds n.kinds.keys k ∙ ap (λ b. b && a.kinds k) h
 
@@ -155,9 +155,9 @@ each_form : (a b : Answers) (form : LongShortForm) (vs : List StandardVariable) 
 each_form a b form [] e = tt
 each_form a b form (v ∷ vs) (e, es) = (e form, each_form a b form vs es)
 
-each_some : (a b : Answers) (vs : List NameVariable) → Each (λ v. a.names v ≡ b.names v) vs → Each (λ v. some_persons (a.names v) ≡ some_persons (b.names v)) vs
+each_some : (a b : Answers) (vs : List NameVariable) → Each (λ v. a.names v ≡ b.names v) vs → Each (λ v. unless_empty (a.names v) ≡ unless_empty (b.names v)) vs
 each_some a b [] e = tt
-each_some a b (v ∷ vs) (e, es) = (ap some_persons e, each_some a b vs es)
+each_some a b (v ∷ vs) (e, es) = (ap unless_empty e, each_some a b vs es)
 
 pub same_snapshot : (n : Named) (a b : Answers) → SameNamedAnswers (named_set n) a b → snapshot_of n a ≡ snapshot_of n b
 same_snapshot n a b h =
@@ -165,7 +165,7 @@ same_snapshot n a b h =
     let pages = each_kept a.pages b.pages n.pages.keys (pages_if n a b h) in
     let longs = each_kept (a.standards Long) (b.standards Long) n.standards.keys (each_form a b Long n.standards.keys (standards_if n a b h)) in
     let shorts = each_kept (a.standards Short) (b.standards Short) n.standards.keys (each_form a b Short n.standards.keys (standards_if n a b h)) in
-    let names = each_kept (λ v. some_persons (a.names v)) (λ v. some_persons (b.names v)) n.names.keys (each_some a b n.names.keys (names_if n a b h)) in
+    let names = each_kept (λ v. unless_empty (a.names v)) (λ v. unless_empty (b.names v)) n.names.keys (each_some a b n.names.keys (names_if n a b h)) in
     let dates = each_kept a.dates b.dates n.dates.keys (dates_if n a b h) in
     let kinds = each_picked a.kinds b.kinds n.kinds.keys (kinds_if n a b h) in
     λ i. record { numbers = numbers i; pages = pages i; long_texts = longs i; short_texts = shorts i; names = names i; dates = dates i; kinds = kinds i }

@@ -55,9 +55,9 @@ abbrev pub kept_answers : {K V : Type 0} → (K → Option V) → List K → Lis
 kept_answers answer keys = filter_map (with_answer answer) keys
 
 -- the persons, if there are any
-abbrev pub some_persons : List PersonView → Option (List PersonView)
-some_persons [] = None
-some_persons (p ∷ ps) = Some (p ∷ ps)
+abbrev pub unless_empty : List PersonView → Option (List PersonView)
+unless_empty [] = None
+unless_empty (p ∷ ps) = Some (p ∷ ps)
 
 -- the snapshot of an entry with these answers
 abbrev pub snapshot_of : Named → Answers → Kept
@@ -66,7 +66,7 @@ snapshot_of n a = record {
   pages = kept_answers a.pages n.pages.keys;
   long_texts = kept_answers (a.standards Long) n.standards.keys;
   short_texts = kept_answers (a.standards Short) n.standards.keys;
-  names = kept_answers (λ v. some_persons (a.names v)) n.names.keys;
+  names = kept_answers (λ v. unless_empty (a.names v)) n.names.keys;
   dates = kept_answers a.dates n.dates.keys;
   kinds = filter a.kinds n.kinds.keys;
 }

@@ -14,7 +14,7 @@ use Rattle.csl_elements.specs.declared.element.ChooseBranch.{ChooseBranch, out-C
 use Rattle.csl_elements.specs.declared.element.Names.{Names, out-Names}
 use Rattle.csl_elements.specs.declared.element.NamesChild.{NamesChild}
 use Rattle.csl_elements.proofs.Rolled.{names_view}
-use Rattle.csl_style.specs.AllNodes.{all_nodes, nodes_inside, nodes_in_branches, nodes_in_substitutes, nodes_in_child, nodes_left, called_name, is_suffix_text}
+use Rattle.csl_style.specs.AllNodes.{all_nodes, nodes_inside, nodes_in_branches, nodes_in_substitutes, nodes_in_child, remaining_nodes, called_name, is_suffix_text}
 use Rattle.csl_style.specs.CallGraph.{calls_in, calls_in_all, calls_in_branches, calls_in_substitutes, own_calls}
 use Rattle.csl_style.specs.YearSuffix.{has_year_suffix, any_has_year_suffix, branches_have_year_suffix, macro_has_year_suffix}
 use Rattle.csl_style.proofs.YearSuffixes.{nodes_out, behind, choose_out, substitute_has_year_suffix, substitutes_size, insteads_same, insteads_sized}
@@ -22,22 +22,22 @@ use Rattle.csl_style.proofs.YearSuffixes.{nodes_out, behind, choose_out, substit
 -- ---- what is left
 
 -- the last of some lists comes first
-pub left_pushed : (ls : List (Bor (List LayoutRenderingElement))) (l : Bor (List LayoutRenderingElement)) → nodes_left (ls ++ l ∷ []) ≡ all_nodes (view_nodes l.now) ++ nodes_left ls
+pub left_pushed : (ls : List (Bor (List LayoutRenderingElement))) (l : Bor (List LayoutRenderingElement)) → remaining_nodes (ls ++ l ∷ []) ≡ all_nodes (view_nodes l.now) ++ remaining_nodes ls
 left_pushed [] l = sym (append-nil (all_nodes (view_nodes l.now)))
-left_pushed (x ∷ ls) l = ap (λ ns. ns ++ all_nodes (view_nodes x.now)) (left_pushed ls l) ∙ append_assoc (all_nodes (view_nodes l.now)) (nodes_left ls) (all_nodes (view_nodes x.now))
+left_pushed (x ∷ ls) l = ap (λ ns. ns ++ all_nodes (view_nodes x.now)) (left_pushed ls l) ∙ append_assoc (all_nodes (view_nodes l.now)) (remaining_nodes ls) (all_nodes (view_nodes x.now))
 
 none_in : (xs : List LayoutRenderingElement) (ns : List Node) → length xs ≡ 0 → all_nodes (view_nodes xs) ++ ns ≡ ns
 none_in [] ns e = refl
 none_in (x ∷ xs) ns e = absurd (omega (arith, e))
 
-pub empty_left : (ls : List (Bor (List LayoutRenderingElement))) (l : Bor (List LayoutRenderingElement)) → length l.now ≡ 0 → nodes_left (ls ++ l ∷ []) ≡ nodes_left ls
-empty_left ls l e = left_pushed ls l ∙ none_in l.now (nodes_left ls) e
+pub empty_left : (ls : List (Bor (List LayoutRenderingElement))) (l : Bor (List LayoutRenderingElement)) → length l.now ≡ 0 → remaining_nodes (ls ++ l ∷ []) ≡ remaining_nodes ls
+empty_left ls l e = left_pushed ls l ∙ none_in l.now (remaining_nodes ls) e
 
 pub first_left : (ls : List (Bor (List LayoutRenderingElement))) (l : Bor (List LayoutRenderingElement)) (x : LayoutRenderingElement) (xs : List LayoutRenderingElement) → l.now ≡ x ∷ xs
-    → nodes_left (ls ++ l ∷ []) ≡ view_node x ∷ (nodes_inside (view_node x) ++ (all_nodes (view_nodes xs) ++ nodes_left ls))
+    → remaining_nodes (ls ++ l ∷ []) ≡ view_node x ∷ (nodes_inside (view_node x) ++ (all_nodes (view_nodes xs) ++ remaining_nodes ls))
 first_left ls l x xs e =
-    left_pushed ls l ∙ ap (λ (ys : List LayoutRenderingElement). all_nodes (view_nodes ys) ++ nodes_left ls) e
-    ∙ ap (λ ns. view_node x ∷ ns) (append_assoc (nodes_inside (view_node x)) (all_nodes (view_nodes xs)) (nodes_left ls))
+    left_pushed ls l ∙ ap (λ (ys : List LayoutRenderingElement). all_nodes (view_nodes ys) ++ remaining_nodes ls) e
+    ∙ ap (λ ns. view_node x ∷ ns) (append_assoc (nodes_inside (view_node x)) (all_nodes (view_nodes xs)) (remaining_nodes ls))
 
 pub joined : (xs ys zs : List Node) → (xs ++ ys) ++ zs ≡ xs ++ (ys ++ zs)
 joined xs ys zs = append_assoc xs ys zs

@@ -19,7 +19,7 @@ use Rattle.csl_elements.proofs.Rolled.{names_view}
 use Rattle.csl_style.specs.declared.missing_term.TermScope.{TermScope}
 use Rattle.csl_style.specs.declared.missing_term.Found.{Found}
 use Rattle.csl_style.specs.FoundTerms.{Finds, with_missing}
-use Rattle.csl_style.specs.MissingTerm.{AskedTerm, is_missing, has_asked, with_asked, each_once, asked_in_names, asked_in_child, asked_in_node, asked_in_nodes, asked_in_branches, asked_in_substitutes, inside_names}
+use Rattle.csl_style.specs.MissingTerm.{AskedTerm, is_missing, has_asked, with_asked, each_once, asked_in_names, asked_in_child, asked_in_node, asked_in_nodes, asked_in_branches, asked_in_substitutes, in_substitutes}
 use Rattle.csl_style.proofs.YearSuffixes.{behind, choose_out, nodes_out}
 
 pub child_first : (ls : List Locale) (env : List ℕ → Option ExpandedNodes) (original : NamesNode) (a : TermScope) (c : NamesChildView) (cs : List NamesChildView)
@@ -28,7 +28,7 @@ child_first ls env original a (a_substitute ns) cs = refl
 child_first ls env original a other cs = refl
 
 module _ (ls : List Locale) (a : TermScope) (env : List ℕ → Option ExpandedNodes) where
-  pub names_asked : (x : Names) → asked_in_node ls a (expand env (view_names x)) ≡ asked_in_names a.writes_and (names_node x) ++ asked_in_substitutes ls (inside_names (names_node x) a) (expand_substitutes env (names_node x) (names_substitutes x))
+  pub names_asked : (x : Names) → asked_in_node ls a (expand env (view_names x)) ≡ asked_in_names a.and_is_a_word (names_node x) ++ asked_in_substitutes ls (in_substitutes (names_node x) a) (expand_substitutes env (names_node x) (names_substitutes x))
   names_asked x = ap (λ n. asked_in_node ls a (expand env n)) (names_view x)
 
   pub choose_asked : (x : Choose) → asked_in_node ls a (expand env (view_choose x)) ≡ asked_in_nodes ls a (expand_nodes env (view_nodes (out-ChooseBranch (out-Choose x).if_).children.items)) ++ asked_in_branches ls a (expand_branches env (behind x))

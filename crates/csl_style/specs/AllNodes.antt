@@ -33,9 +33,9 @@ abbrev mutual
   nodes_in_substitutes (substitute ns ss) = all_nodes ns ++ nodes_in_substitutes ss
 
 -- all nodes of lists of which the last comes first
-abbrev pub nodes_left : List (Bor (List LayoutRenderingElement)) → List Node
-nodes_left [] = []
-nodes_left (l ∷ ls) = nodes_left ls ++ all_nodes (view_nodes l.now)
+abbrev pub remaining_nodes : List (Bor (List LayoutRenderingElement)) → List Node
+remaining_nodes [] = []
+remaining_nodes (l ∷ ls) = remaining_nodes ls ++ all_nodes (view_nodes l.now)
 
 -- the name that a node calls itself, without the nodes inside it
 abbrev pub called_name : Node → Option (List ℕ)

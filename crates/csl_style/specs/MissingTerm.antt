@@ -66,8 +66,8 @@ abbrev pub AskedTerm : Type 0
 AskedTerm = Term × TermForm
 
 -- a term that names no variable, in the long form
-abbrev pub word : OtherTerm → AskedTerm
-word t = (terms.Other t, Long)
+abbrev pub long_form : OtherTerm → AskedTerm
+long_form t = (terms.Other t, Long)
 
 -- ---- texts, labels and dates
 
@@ -77,7 +77,7 @@ asked_in_target (of_term t form plural) = (t, form) ∷ []
 asked_in_target (of_value bs) = []
 
 abbrev pub asked_in_two_quotes : Bool → List AskedTerm
-asked_in_two_quotes in_quotes = if in_quotes then word OpenInnerQuote ∷ word CloseInnerQuote ∷ [] else word OpenQuote ∷ word CloseQuote ∷ []
+asked_in_two_quotes in_quotes = if in_quotes then long_form OpenInnerQuote ∷ long_form CloseInnerQuote ∷ [] else long_form OpenQuote ∷ long_form CloseQuote ∷ []
 
 -- by the quotes of a text, if it has them
 abbrev pub asked_in_quotes : Bool → Bool → List AskedTerm
@@ -102,7 +102,7 @@ asked_in_label (number_or_page.Page v) form = (terms.Page v, form) ∷ []
 abbrev pub asked_in_part : DatePartName → List AskedTerm
 asked_in_part Day = []
 asked_in_part Month = (terms.Other (Season Spring), Short) ∷ (terms.Other (Season Summer), Short) ∷ (terms.Other (Season Autumn), Short) ∷ (terms.Other (Season Winter), Short) ∷ []
-asked_in_part Year = word Ad ∷ word Bc ∷ []
+asked_in_part Year = long_form Ad ∷ long_form Bc ∷ []
 
 abbrev pub asked_in_parts : List DatePartNode → List AskedTerm
 asked_in_parts ps = flat_map (λ p. asked_in_part p.name) ps
@@ -122,17 +122,17 @@ asked_in_date ls d = asked_in_form ls d.date_part d.form
 -- ---- names
 
 -- whether `and` is written as a word: by the option if it is set, else as inherited
-abbrev pub writes_and : Option NameAnd → Bool → Bool
-writes_and None inherited = inherited
-writes_and (Some and.Text) inherited = true
-writes_and (Some and.Symbol) inherited = false
+abbrev pub and_is_a_word : Option NameAnd → Bool → Bool
+and_is_a_word None inherited = inherited
+and_is_a_word (Some and.Text) inherited = true
+and_is_a_word (Some and.Symbol) inherited = false
 
 abbrev pub and_of_name : Option NameNode → Option NameAnd
 and_of_name None = None
 and_of_name (Some n) = n.options.and
 
 abbrev pub asked_in_and : Bool → List AskedTerm
-asked_in_and writes = if writes then word And ∷ [] else []
+asked_in_and writes = if writes then long_form And ∷ [] else []
 
 abbrev pub et_al_term : Option EtAlNode → OtherTerm
 et_al_term None = EtAl
@@ -154,29 +154,29 @@ asked_in_names_label (Some l) vs = map (λ v. (terms.Name v, l.form)) vs
 abbrev pub asked_in_names : Bool → NamesNode → List AskedTerm
 asked_in_names inherited n =
     asked_in_names_label (label_on false n.label) n.variables
-    ++ (asked_in_and (writes_and (and_of_name (first_name n)) (writes_and n.options.and inherited))
-    ++ (word (et_al_term n.et_al) ∷ asked_in_names_label (label_on true n.label) n.variables))
+    ++ (asked_in_and (and_is_a_word (and_of_name (first_name n)) (and_is_a_word n.options.and inherited))
+    ++ (long_form (et_al_term n.et_al) ∷ asked_in_names_label (label_on true n.label) n.variables))
 
 -- ---- nodes, with all macros expanded, by what is around them
 
 -- inside a text, in quotes or not
-abbrev pub within_text : Bool → TermScope → TermScope
-within_text quotes a = record { writes_and = a.writes_and; in_quotes = if quotes then not a.in_quotes else a.in_quotes }
+abbrev pub in_text : Bool → TermScope → TermScope
+in_text quotes a = record { and_is_a_word = a.and_is_a_word; in_quotes = if quotes then not a.in_quotes else a.in_quotes }
 
 -- inside the substitutes of names
-abbrev pub inside_names : NamesNode → TermScope → TermScope
-inside_names n a = record { writes_and = writes_and n.options.and a.writes_and; in_quotes = a.in_quotes }
+abbrev pub in_substitutes : NamesNode → TermScope → TermScope
+in_substitutes n a = record { and_is_a_word = and_is_a_word n.options.and a.and_is_a_word; in_quotes = a.in_quotes }
 
 abbrev mutual
   pub asked_in_node : List Locale → TermScope → ExpandedNode → List AskedTerm
   asked_in_node ls a (expanded_text t d) = asked_in_quotes d.quotes a.in_quotes ++ asked_in_target t
-  asked_in_node ls a (expanded_macro fs d) = asked_in_quotes d.quotes a.in_quotes ++ asked_in_nodes ls (within_text d.quotes a) fs
+  asked_in_node ls a (expanded_macro fs d) = asked_in_quotes d.quotes a.in_quotes ++ asked_in_nodes ls (in_text d.quotes a) fs
   asked_in_node ls a unknown_macro = []
   asked_in_node ls a (expanded_number n) = []
   asked_in_node ls a (expanded_label v l) = asked_in_label v l.form
   asked_in_node ls a (expanded_date d) = asked_in_date ls d
-  asked_in_node ls a (expanded_names n is) = asked_in_names a.writes_and n ++ asked_in_substitutes ls (inside_names n a) is
-  asked_in_node ls a (shorthand written n) = asked_in_names a.writes_and n
+  asked_in_node ls a (expanded_names n is) = asked_in_names a.and_is_a_word n ++ asked_in_substitutes ls (in_substitutes n a) is
+  asked_in_node ls a (shorthand written n) = asked_in_names a.and_is_a_word n
   asked_in_node ls a (expanded_choose cs) = asked_in_branches ls a cs
   asked_in_node ls a (expanded_group delimiter d fs) = asked_in_nodes ls a fs
 
@@ -205,7 +205,7 @@ asked_in_child ls env original a other = []
 -- Around a layout, `and` is a word if it is in one of the two scopes, unless names set otherwise.
 abbrev pub scope_of_layout : StyleSettings → TermScope
 scope_of_layout s = record {
-  writes_and = writes_and (base_options Citation s).and false || writes_and (base_options Bibliography s).and false;
+  and_is_a_word = and_is_a_word (base_options Citation s).and false || and_is_a_word (base_options Bibliography s).and false;
   in_quotes = false;
 }
 

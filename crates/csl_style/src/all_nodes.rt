@@ -8,31 +8,31 @@ ghost use Rattle.csl_style.specs.AllNodes as spec;
 use csl_elements::{Choose, LayoutRenderingElement, Names, NamesChild, TextTarget};
 use std::alloc::{AllocError, Global};
 
-/// The nodes that a walk has still to go through (`nodes_left`).
+/// The nodes that a walk has still to go through (`remaining_nodes`).
 #[derive(Drop)]
-pub(crate) struct NodesLeft<'s> {
+pub(crate) struct RemainingNodes<'s> {
     /// Lists of nodes, each with the nodes inside them. The last list comes first.
     lists: Vec<&'s [LayoutRenderingElement]>,
 }
 
-impl<'s> NodesLeft<'s> {
+impl<'s> RemainingNodes<'s> {
     /// All nodes of a list, at any depth.
     pub(crate) fn new(
         alloc: Global,
         nodes: &'s [LayoutRenderingElement],
-    ) -> Result<NodesLeft<'s>, AllocError>
-        ensures { IfOk result (λ left. spec.nodes_left left.lists.items
+    ) -> Result<RemainingNodes<'s>, AllocError>
+        ensures { IfOk result (λ left. spec.remaining_nodes left.lists.items
             ≡ spec.all_nodes (view_nodes nodes.now)) }
     {
         let lists = vec![in alloc; nodes]?;
-        Ok(NodesLeft { lists })
+        Ok(RemainingNodes { lists })
     }
 
     /// Puts a list of nodes, with those inside them, before the others.
     #[tactic(auto, using(crate::proofs::AllNodesLaws::left_pushed))]
     pub(crate) fn push(&mut self, nodes: &'s [LayoutRenderingElement]) -> Result<(), AllocError>
-        ensures { OnOk result (spec.nodes_left self.new.lists.items
-            ≡ spec.all_nodes (view_nodes nodes.now) ++ spec.nodes_left self.old.lists.items) }
+        ensures { OnOk result (spec.remaining_nodes self.new.lists.items
+            ≡ spec.all_nodes (view_nodes nodes.now) ++ spec.remaining_nodes self.old.lists.items) }
     {
         if !nodes.is_empty() {
             self.lists.push(nodes)?;
@@ -43,8 +43,8 @@ impl<'s> NodesLeft<'s> {
     /// Puts the nodes inside a choose before the others.
     #[tactic(auto, using(crate::proofs::AllNodesLaws::choose_laws))]
     fn push_branches(&mut self, choose: &'s Choose) -> Result<(), AllocError>
-        ensures { OnOk result (spec.nodes_left self.new.lists.items
-            ≡ spec.nodes_inside (view_choose choose.now) ++ spec.nodes_left self.old.lists.items) }
+        ensures { OnOk result (spec.remaining_nodes self.new.lists.items
+            ≡ spec.nodes_inside (view_choose choose.now) ++ spec.remaining_nodes self.old.lists.items) }
     {
         if let Some(otherwise) = &choose.otherwise {
             self.push(otherwise)?;
@@ -59,8 +59,8 @@ impl<'s> NodesLeft<'s> {
 
     /// Puts the nodes inside a child of names before the others. Only a substitute has any.
     fn push_child(&mut self, child: &'s NamesChild) -> Result<(), AllocError>
-        ensures { OnOk result (spec.nodes_left self.new.lists.items
-            ≡ spec.nodes_in_child (view_child child.now) ++ spec.nodes_left self.old.lists.items) }
+        ensures { OnOk result (spec.remaining_nodes self.new.lists.items
+            ≡ spec.nodes_in_child (view_child child.now) ++ spec.remaining_nodes self.old.lists.items) }
     {
         match child {
             NamesChild::Name(_) | NamesChild::EtAl(_) | NamesChild::Label(_) => Ok(()),
@@ -71,8 +71,8 @@ impl<'s> NodesLeft<'s> {
     /// Puts the nodes inside a names node before the others. They are those of its substitutes.
     #[tactic(auto, using(crate::proofs::AllNodesLaws::names_laws))]
     fn push_substitutes(&mut self, names: &'s Names) -> Result<(), AllocError>
-        ensures { OnOk result (spec.nodes_left self.new.lists.items
-            ≡ spec.nodes_inside (view_names names.now) ++ spec.nodes_left self.old.lists.items) }
+        ensures { OnOk result (spec.remaining_nodes self.new.lists.items
+            ≡ spec.nodes_inside (view_names names.now) ++ spec.remaining_nodes self.old.lists.items) }
     {
         let mut i = names.children.len();
         while i > 0 {
@@ -84,8 +84,8 @@ impl<'s> NodesLeft<'s> {
 
     /// Puts the nodes inside a node before the others.
     fn push_inside(&mut self, node: &'s LayoutRenderingElement) -> Result<(), AllocError>
-        ensures { OnOk result (spec.nodes_left self.new.lists.items
-            ≡ spec.nodes_inside (view_node node.now) ++ spec.nodes_left self.old.lists.items) }
+        ensures { OnOk result (spec.remaining_nodes self.new.lists.items
+            ≡ spec.nodes_inside (view_node node.now) ++ spec.remaining_nodes self.old.lists.items) }
     {
         match node {
             LayoutRenderingElement::Text(_)
@@ -101,11 +101,11 @@ impl<'s> NodesLeft<'s> {
     /// Takes the next node.
     #[tactic(auto, using(crate::proofs::AllNodesLaws::next_laws))]
     pub(crate) fn next(&mut self) -> Result<Option<&'s LayoutRenderingElement>, AllocError>
-        ensures next { IfOk result (λ next. IfSome next (λ node. spec.nodes_left
+        ensures next { IfOk result (λ next. IfSome next (λ node. spec.remaining_nodes
             self.old.lists.items
-            ≡ view_node node.now ∷ spec.nodes_left self.new.lists.items)) }
+            ≡ view_node node.now ∷ spec.remaining_nodes self.new.lists.items)) }
         ensures end { IfOk result (λ next. next ≡ None
-            → spec.nodes_left self.old.lists.items ≡ []) }
+            → spec.remaining_nodes self.old.lists.items ≡ []) }
     {
         while let Some(list) = self.lists.pop() {
             if let Some((first, rest)) = list.split_first() {

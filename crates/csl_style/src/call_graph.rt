@@ -7,7 +7,7 @@ ghost use Rattle.csl_elements.specs.View.{definitions, view_nodes};
 ghost use Rattle.csl_style.specs.Expansion.{macro_index};
 ghost use Rattle.csl_style.specs.CallGraph.{calls_in_all, IsCallGraph, ArePlacesByName};
 
-use crate::all_nodes::{NodesLeft, called_name};
+use crate::all_nodes::{RemainingNodes, called_name};
 use crate::places::Places;
 use csl_elements::{CslMacro, LayoutRenderingElement};
 use std::alloc::{AllocError, Global};
@@ -87,7 +87,7 @@ fn add_all_calls(
     ensures { OnOk result (places.new.items ≡ places.old.items
         ++ calls_in_all (definitions macros.now) (view_nodes elements.now)) }
 {
-    let mut left = NodesLeft::new(alloc, elements)?;
+    let mut left = RemainingNodes::new(alloc, elements)?;
     while let Some(node) = left.next()? {
         if let Some(name) = called_name(node) {
             add_place(name, macros, places)?;

@@ -85,8 +85,8 @@ impl<'g> Walk<'g> {
         Ok(())
     }
 
-    /// Notes that a place leads to the open place that was entered then.
-    fn note(&mut self, place: usize, entered: usize) {
+    /// Lowers the earliest open place that a place leads to, if it was entered later than that.
+    fn lower_earliest(&mut self, place: usize, entered: usize) {
         if entered < number_at(&self.earliest, place) {
             set_number(&mut self.earliest, place, entered);
         }
@@ -99,7 +99,7 @@ impl<'g> Walk<'g> {
             return self.enter(to);
         }
         if number_at(&self.found.levels, to) == self.graph.len() {
-            self.note(place, entered);
+            self.lower_earliest(place, entered);
         }
         Ok(())
     }
@@ -129,7 +129,7 @@ impl<'g> Walk<'g> {
             Some(visit) => visit.place,
             None => return Ok(()),
         };
-        self.note(before, earliest);
+        self.lower_earliest(before, earliest);
         Ok(())
     }
 

@@ -27,7 +27,7 @@ use std::alloc::Global;
 #[derive(Clone, Copy)]
 pub(crate) struct TermScope {
     /// Whether names write `and` as a word unless they set otherwise.
-    writes_and: bool,
+    and_is_a_word: bool,
     /// Whether the number of quotes around is odd.
     in_quotes: bool,
 }
@@ -40,8 +40,8 @@ fn is_missing(style: &Style, asked: (Term, TermForm)) -> bool
 }
 
 /// A term that names no variable, in its long form.
-fn word(term: OtherTerm) -> (Term, TermForm)
-    ensures { result ≡ spec.word term }
+fn long_form(term: OtherTerm) -> (Term, TermForm)
+    ensures { result ≡ spec.long_form term }
 {
     (Term::Other(term), TermForm::Long)
 }
@@ -109,12 +109,15 @@ fn ask_two_quotes(found: &mut Found, style: &Style, in_quotes: bool)
 {
     if in_quotes {
         let quotes = [
-            word(OtherTerm::OpenInnerQuote),
-            word(OtherTerm::CloseInnerQuote),
+            long_form(OtherTerm::OpenInnerQuote),
+            long_form(OtherTerm::CloseInnerQuote),
         ];
         found.ask_all(style, &quotes)
     } else {
-        let quotes = [word(OtherTerm::OpenQuote), word(OtherTerm::CloseQuote)];
+        let quotes = [
+            long_form(OtherTerm::OpenQuote),
+            long_form(OtherTerm::CloseQuote),
+        ];
         found.ask_all(style, &quotes)
     }
 }
@@ -213,7 +216,9 @@ fn ask_part(found: &mut Found, style: &Style, name: DatePartName)
                 season(Season::Winter),
             ],
         ),
-        DatePartName::Year => { found.ask_all(style, &[word(OtherTerm::Ad), word(OtherTerm::Bc)]) }
+        DatePartName::Year => {
+            found.ask_all(style, &[long_form(OtherTerm::Ad), long_form(OtherTerm::Bc)])
+        }
     }
 }
 
@@ -242,8 +247,8 @@ fn ask_date(found: &mut Found, style: &Style, date: &Date)
 }
 
 /// Whether `and` is a word by an option, else as inherited.
-fn writes_and(and: Option<NameAnd>, inherited: bool) -> bool
-    ensures { result ≡ spec.writes_and and inherited }
+fn and_is_a_word(and: Option<NameAnd>, inherited: bool) -> bool
+    ensures { result ≡ spec.and_is_a_word and inherited }
 {
     match and {
         None => inherited,
@@ -289,16 +294,16 @@ fn ask_names_label(
 /// Asks for `and`, if names write it as a word.
 fn ask_and(found: &mut Found, style: &Style, parts: NamesParts<'_>, inherited: bool)
     ensures { Finds style.now.locales (spec.asked_in_and
-        (spec.writes_and (spec.and_of_name (first_name (parts_node parts.entry)))
-        (spec.writes_and (parts_node parts.entry).options.and inherited))) found.old found.new }
+        (spec.and_is_a_word (spec.and_of_name (first_name (parts_node parts.entry)))
+        (spec.and_is_a_word (parts_node parts.entry).options.and inherited))) found.old found.new }
 {
-    let own = writes_and(parts.options.and, inherited);
+    let own = and_is_a_word(parts.options.and, inherited);
     let writes = match parts.name() {
-        Some(name) => writes_and(name.options.and, own),
+        Some(name) => and_is_a_word(name.options.and, own),
         None => own,
     };
     if writes {
-        found.ask(style, word(OtherTerm::And));
+        found.ask(style, long_form(OtherTerm::And));
     }
 }
 
@@ -320,14 +325,14 @@ fn ask_names(found: &mut Found, style: &Style, parts: NamesParts<'_>, inherited:
 {
     ask_names_label(found, style, label_on(parts, false), parts.variables);
     ask_and(found, style, parts, inherited);
-    found.ask(style, word(et_al_term(parts)));
+    found.ask(style, long_form(et_al_term(parts)));
     ask_names_label(found, style, label_on(parts, true), parts.variables);
 }
 
 impl TermScope {
     /// What is around the nodes inside a text.
-    fn within_text(self, quotes: bool) -> TermScope
-        ensures { result ≡ spec.within_text quotes self }
+    fn in_text(self, quotes: bool) -> TermScope
+        ensures { result ≡ spec.in_text quotes self }
     {
         TermScope {
             in_quotes: if quotes {
@@ -340,11 +345,11 @@ impl TermScope {
     }
 
     /// What is around the substitutes of names.
-    fn inside_names(self, parts: NamesParts<'_>) -> TermScope
-        ensures { result ≡ spec.inside_names (parts_node parts.entry) self }
+    fn in_substitutes(self, parts: NamesParts<'_>) -> TermScope
+        ensures { result ≡ spec.in_substitutes (parts_node parts.entry) self }
     {
         TermScope {
-            writes_and: writes_and(parts.options.and, self.writes_and),
+            and_is_a_word: and_is_a_word(parts.options.and, self.and_is_a_word),
             ..self
         }
     }
@@ -407,12 +412,7 @@ fn visit_text<'s>(found: &mut Found, style: &'s Style, text: &'s Text, around: T
         TextTarget::Macro { name } => {
             if let Some(called) = style.get_macro(name.as_str()) {
                 ask_quotes(found, style, text.quotes, around.in_quotes);
-                visit_all(
-                    found,
-                    style,
-                    &called.children,
-                    around.within_text(text.quotes),
-                );
+                visit_all(found, style, &called.children, around.in_text(text.quotes));
             }
         }
     }
@@ -425,8 +425,8 @@ fn visit_names<'s>(found: &mut Found, style: &'s Style, names: &'s Names, around
         (expanded style.now (view_names names.now))) found.old found.new }
 {
     let parts = names.parts();
-    ask_names(found, style, parts, around.writes_and);
-    let inside = around.inside_names(parts);
+    ask_names(found, style, parts, around.and_is_a_word);
+    let inside = around.in_substitutes(parts);
     for child in &names.children {
         visit_child(found, style, child, parts, inside);
     }
@@ -466,14 +466,14 @@ fn visit_substitute<'s>(
         (view_nodes elements.now))) found.old found.new }
 {
     for element in elements {
-        visit_place(found, style, element, original, around);
+        visit_substitute_child(found, style, element, original, around);
     }
 }
 
 /// Asks for the terms of a child of a substitute. Names without children are in the place of the
 /// names around the substitute.
 #[cycle(terms)]
-fn visit_place<'s>(
+fn visit_substitute_child<'s>(
     found: &mut Found,
     style: &'s Style,
     element: &'s LayoutRenderingElement,
@@ -487,7 +487,7 @@ fn visit_place<'s>(
     match element.childless_names() {
         Some(names) => {
             let parts = names.parts_in_place_of(original);
-            ask_names(found, style, parts, around.writes_and)
+            ask_names(found, style, parts, around.and_is_a_word)
         }
         None => visit(found, style, element, around),
     }
@@ -513,10 +513,10 @@ fn visit_choose<'s>(found: &mut Found, style: &'s Style, choose: &'s Choose, aro
 fn scope_of_layout(style: &Style) -> TermScope
     ensures { result ≡ spec.scope_of_layout style.now.settings }
 {
-    let in_citation = writes_and(style.base_name_options(Scope::Citation).and, false);
-    let in_bibliography = writes_and(style.base_name_options(Scope::Bibliography).and, false);
+    let in_citation = and_is_a_word(style.base_name_options(Scope::Citation).and, false);
+    let in_bibliography = and_is_a_word(style.base_name_options(Scope::Bibliography).and, false);
     TermScope {
-        writes_and: in_citation || in_bibliography,
+        and_is_a_word: in_citation || in_bibliography,
         in_quotes: false,
     }
 }

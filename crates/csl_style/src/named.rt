@@ -1,7 +1,7 @@
 //! The variables and kinds that a layout names, in itself and in the macros that it reaches (CSL
 //! 1.0.2, Rendering Elements; Macro; Choose; Substitute): all of them, those in tests of branches,
 //! or those that a cite of one variable tells beside it. The nodes come as a flat list
-//! ([`NodesLeft`]), so no depth takes stack.
+//! ([`RemainingNodes`]), so no depth takes stack.
 
 ghost use Rattle.std.specs.Prelude.{◌≡◌, None, length, IfSome, IfOk, OnOk, option_map};
 ghost use Rattle.csl_elements.specs.Node.{expand_layout};
@@ -13,7 +13,7 @@ ghost use Rattle.csl_style.specs.Named.{the_variable, the_kind, the_name, the_da
 ghost use Rattle.csl_style.specs.NamedWalk.{Adds, named_in_tests_of, named_itself, part_itself, part_in, AreMarked, IsFirstCall};
 ghost use Rattle.csl_style.specs.Expanded.{macro_env};
 
-use crate::all_nodes::{NodesLeft, called_name};
+use crate::all_nodes::{RemainingNodes, called_name};
 use crate::style::Style;
 use crate::tested::add_tested;
 use crate::told::add_told;
@@ -266,7 +266,7 @@ pub(crate) fn named_part(
 {
     let mut named = empty_named(alloc);
     let mut seen = vec![in alloc; false; style.macros().len()]?;
-    let mut left = NodesLeft::new(alloc, &layout.elements)?;
+    let mut left = RemainingNodes::new(alloc, &layout.elements)?;
     while let Some(node) = left.next()? {
         add_part(&mut named, part, node)?;
         if let Some(found) = unmarked_macro(style, &mut seen, node) {

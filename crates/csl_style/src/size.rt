@@ -66,7 +66,7 @@ fn localized_parts(style: &Style, form: Option<DateForm>, once: bool) -> u64
 }
 
 /// The room for what comes after a branch: if `once`, that before the nodes of the branch.
-fn room_after_branch(before: u64, after: u64, once: bool) -> u64
+fn room_for_next_branch(before: u64, after: u64, once: bool) -> u64
     ensures { result ≡ (if once then before else after) }
 {
     if once { before } else { after }
@@ -122,7 +122,7 @@ pub(crate) fn known_call<const ONCE: bool>(
 {
     let found = known_macro(style, known, element)?;
     let depth = found.depth.checked_add(1)?;
-    let inside = room_after_branch(found.rendered, found.all, ONCE);
+    let inside = room_for_next_branch(found.rendered, found.all, ONCE);
     let size = inside.checked_add(1)?;
     Some(CallSize { size, depth })
 }
@@ -302,11 +302,11 @@ fn room_left_by_choose<const ONCE: bool>(
     let inside = most.checked_sub(1)?;
     let left = room_left_by_tests(&choose.if_, room.checked_sub(1)?.checked_sub(1)?)?;
     let mut least = room_left_by_all::<ONCE>(style, known, &choose.if_.children, left, inside)?;
-    let mut next = room_after_branch(left, least, ONCE);
+    let mut next = room_for_next_branch(left, least, ONCE);
     for branch in &choose.else_if {
         let left = room_left_by_tests(branch, next.checked_sub(1)?)?;
         let after = room_left_by_all::<ONCE>(style, known, &branch.children, left, inside)?;
-        next = room_after_branch(left, after, ONCE);
+        next = room_for_next_branch(left, after, ONCE);
         least = smaller(least, after);
     }
     match &choose.otherwise {

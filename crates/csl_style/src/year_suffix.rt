@@ -9,7 +9,7 @@ ghost use Rattle.csl_style.specs.CallGraph.{children_at, ArePlacesByName};
 ghost use Rattle.csl_style.specs.YearSuffix as spec;
 ghost use Rattle.csl_style.specs.AllNodes.{is_suffix_text};
 
-use crate::all_nodes::{NodesLeft, called_name};
+use crate::all_nodes::{RemainingNodes, called_name};
 use crate::places::Places;
 use csl_elements::{
     CslMacro, Layout, LayoutRenderingElement, StandardVariable, TextTarget, Variable,
@@ -119,7 +119,7 @@ impl<'s> Search<'s> {
     }
 
     /// Keeps whether a text of the year suffix is in the macro at a place.
-    fn note(&mut self, i: usize, has: bool)
+    fn keep(&mut self, i: usize, has: bool)
         requires within { i < length self.old }
         requires has { spec.any_has_year_suffix (expand_nodes (macro_expansion (definitions
             self.old))
@@ -159,7 +159,7 @@ fn any_has_year_suffix<'s>(
     ensures { IfOk result (λ has. has ≡ spec.any_has_year_suffix
         (expand_nodes (macro_expansion (definitions search.now)) (view_nodes elements.now))) }
 {
-    let mut left = NodesLeft::new(alloc, elements)?;
+    let mut left = RemainingNodes::new(alloc, elements)?;
     while let Some(node) = left.next()? {
         if is_suffix_text(node) {
             return Ok(true);
@@ -192,7 +192,7 @@ fn search_macros<'s>(
     for at in callees_first.iter() {
         if search.has_macro(*at) {
             let has = any_has_year_suffix(alloc, search, search.nodes_at(*at))?;
-            search.note(*at, has);
+            search.keep(*at, has);
         }
     }
     Ok(())

@@ -6,7 +6,7 @@ use Rattle.std.specs.declared.alloc.Global.{Global}
 use Rattle.std.specs.Vec.{with_item}
 use Rattle.csl_tree.specs.Search.{last_text, last_text_of, last_of}
 use Rattle.csl_tree.specs.Places.{children_of, layer_children, layer_text, text_of_child, no_child, child_at, get_at, first_of, last, child_path, elem_path, children_path, before_path, last_step, last_path, last_path_of_child, put_last_text}
-use Rattle.csl_tree.specs.Walks.{goes_on, index_towards, items_towards, put_items_towards}
+use Rattle.csl_tree.specs.Walks.{has_next, index_towards, items_towards, put_items_towards}
 use Rattle.csl_tree.specs.declared.places.Target.TheVariants.{End}
 use Rattle.csl_tree.specs.declared.formatting.Formatted.{Formatted}
 use Rattle.csl_tree.specs.declared.elem.ElemChild.{ElemChild}
@@ -57,13 +57,13 @@ some_of : (i : ℕ) (o : Option ElemChildren) → is_some (option_map (λ d. i) 
 some_of i None = refl
 some_of i (Some d) = refl
 
-index_is : (c : ElemChildren) → goes_on End c ≡ true → index_towards End c ≡ last c
+index_is : (c : ElemChildren) → has_next End c ≡ true → index_towards End c ≡ last c
 index_is c on = ap (λ o. unwrap_or o 0) (next_is c) ∙ index_of (last c) (children_of (child_at c (last c))) (sym (ap is_some (next_is c)) ∙ on)
 
-pub has_children : (c : ElemChildren) (x : ElemChild) → x ≡ child_at c (index_towards End c) → goes_on End c ≡ true → is_some (children_of x) ≡ true
+pub has_children : (c : ElemChildren) (x : ElemChild) → x ≡ child_at c (index_towards End c) → has_next End c ≡ true → is_some (children_of x) ≡ true
 has_children c x is on = ap (λ k. is_some (children_of k)) (is ∙ ap (child_at c) (index_is c on)) ∙ sym (some_of (last c) (children_of (child_at c (last c)))) ∙ sym (ap is_some (next_is c)) ∙ on
 
-pub further : (c d : ElemChildren) (x : ElemChild) → x ≡ child_at c (index_towards End c) → Some d ≡ children_of x → goes_on End c ≡ true → last_path c ≡ index_towards End c ∷ last_path d
+pub further : (c d : ElemChildren) (x : ElemChild) → x ≡ child_at c (index_towards End c) → Some d ≡ children_of x → has_next End c ≡ true → last_path c ≡ index_towards End c ∷ last_path d
 further c d x is has on =
     let at : x ≡ child_at c (last c) = is ∙ ap (child_at c) (index_is c on) in
     path_out c
@@ -128,8 +128,8 @@ module _ (s : ElemChildren) (v : Vec ElemChild Global) (is : v ≡ items_towards
   abbrev text_in : Formatted → Vec ElemChild Global → ℕ → ElemChildren
   text_in t u i = put_items_towards End s (with_item u i (variants.Text t))
 
-  pub put_text : (t : Formatted) → put_items_towards End s (with_item v n (variants.Text t)) ≡ put_last_text s t
-  put_text t = ap (λ u. text_in t u n) is ∙ ap (text_in t (items_towards End s)) end_is
+  pub insert_text : (t : Formatted) → put_items_towards End s (with_item v n (variants.Text t)) ≡ put_last_text s t
+  insert_text t = ap (λ u. text_in t u n) is ∙ ap (text_in t (items_towards End s)) end_is
 
   pub final_is : (k : ElemChild) → n < length v.items → k ≡ slice_index_or v.items n k → k ≡ final s
   final_is k h e = at_index v.items n n no_child refl h e ∙ ap (λ u. slice_index_or u.items n no_child) is ∙ ap (child_at (get_at (last_path s) s)) end_is

@@ -4,7 +4,7 @@ use Rattle.std.specs.Prelude.{unwrap_or}
 use Rattle.std.specs.declared.vec.Vec.{Vec}
 use Rattle.std.specs.declared.alloc.Global.{Global}
 use Rattle.csl_tree.specs.Places.{children_of, layer_children, child_at, put_child, descend, get_at, put_at, first_of, no_child}
-use Rattle.csl_tree.specs.Walks.{goes_on, index_towards, items_towards, put_items_towards}
+use Rattle.csl_tree.specs.Walks.{has_next, index_towards, items_towards, put_items_towards}
 use Rattle.csl_tree.specs.declared.places.Target.TheVariants.{Names}
 use Rattle.csl_tree.specs.FindNames.{NamesPosition, absent, here, below, find_child, find_elem, find_children, find_from, first_found, found_or, names_find, find_of_child, parent_path, optional_parent_path, names_path, is_found, is_here, any_is_here, here_index, end_of, elem_at, put_elem_at, first_names, put_first_names}
 use Rattle.std.specs.Vec.{with_item}
@@ -127,7 +127,7 @@ inner_is : (o : Option ElemChildren) (d e : ElemChildren) → Some d ≡ o → o
 inner_is o d e h k = ap (λ x. unwrap_or x d) (h ∙ k)
 
 -- the path goes on in the children of that child
-pub further : (c d : ElemChildren) (x : ElemChild) → x ≡ child_at c (index_towards Names c) → Some d ≡ children_of x → goes_on Names c ≡ true → names_path c ≡ index_towards Names c ∷ names_path d
+pub further : (c d : ElemChildren) (x : ElemChild) → x ≡ child_at c (index_towards Names c) → Some d ≡ children_of x → has_next Names c ≡ true → names_path c ≡ index_towards Names c ∷ names_path d
 further c d x is has e =
     let b = below_of c (names_find c) refl e in
     let n = child_in c b in
@@ -135,7 +135,7 @@ further c d x is has e =
     let inner : names_path d ≡ parent_path b.p = ap names_path same ∙ ap optional_parent_path n.found in
     path_is c b ∙ ap (λ i. i ∷ parent_path b.p) (sym (ap first_index (path_is c b))) ∙ ap (λ p. index_towards Names c ∷ p) (sym inner)
 
-pub has_children : (c : ElemChildren) (x : ElemChild) → x ≡ child_at c (index_towards Names c) → goes_on Names c ≡ true → is_some (children_of x) ≡ true
+pub has_children : (c : ElemChildren) (x : ElemChild) → x ≡ child_at c (index_towards Names c) → has_next Names c ≡ true → is_some (children_of x) ≡ true
 has_children c x is e = let n = child_in c (below_of c (names_find c) refl e) in ap (λ k. is_some (children_of k)) is ∙ ap is_some n.is
 
 -- a path that is found is not empty

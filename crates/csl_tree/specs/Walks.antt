@@ -22,8 +22,8 @@ path_towards End c = last_path c
 abbrev pub next_towards : Target → ElemChildren → Option ℕ
 next_towards to c = first_of (path_towards to c)
 
-abbrev pub goes_on : Target → ElemChildren → Bool
-goes_on to c = is_some (next_towards to c)
+abbrev pub has_next : Target → ElemChildren → Bool
+has_next to c = is_some (next_towards to c)
 
 abbrev pub index_towards : Target → ElemChildren → ℕ
 index_towards to c = unwrap_or (next_towards to c) 0

@@ -133,7 +133,7 @@ fn reserve_affixes(room: &mut Room, children: &mut Vec<ElemChild>, bytes: u64) -
 }
 
 /// Inserts a text at a place, unless it is absent or empty. There must be room for it.
-fn put_text(children: &mut Vec<ElemChild>, at: usize, text: Option<Formatted>)
+fn insert_text(children: &mut Vec<ElemChild>, at: usize, text: Option<Formatted>)
     requires within { at ≤ vec_len children.old }
     requires room { vec_len children.old < vec_capacity children.old }
     ensures before { take at children.new.items ≡ take at children.old.items }
@@ -256,7 +256,7 @@ impl FlatTree {
 
     /// Appends a text to the last child of the innermost part if that is a text of equal
     /// formatting. Returns whether it is.
-    fn join_end(&mut self, more: &str, formatting: Formatting) -> Result<bool, Memory>
+    fn join_to_last(&mut self, more: &str, formatting: Formatting) -> Result<bool, Memory>
         ensures joins { IfOk result (λ did. OnTrue did
             (self.new ≡ with_tokens (spec.text more.now formatting ∷ []) self.old)) }
         ensures unchanged { IfOk result (λ did. OnFalse did (self.new ≡ self.old)) }
@@ -306,7 +306,7 @@ impl FlatTree {
             return Ok(());
         }
         take_from(&mut self.room, more.len() as u64)?;
-        if self.join_end(more, formatting)? {
+        if self.join_to_last(more, formatting)? {
             return Ok(());
         }
         self.push_new_text(more, formatting)
@@ -326,7 +326,7 @@ impl FlatTree {
         }
         take_from(&mut self.room, child_bytes(&child))?;
         if let ElemChild::Text(text) = &child {
-            if self.join_end(text.text.as_str(), text.formatting)? {
+            if self.join_to_last(text.text.as_str(), text.formatting)? {
                 return Ok(());
             }
         }
@@ -410,8 +410,8 @@ impl FlatTree {
         if end > self.start {
             let bytes = affix_bytes(&before).saturating_add(affix_bytes(&after));
             reserve_affixes(&mut self.room, &mut self.children, bytes)?;
-            put_text(&mut self.children, end, after);
-            put_text(&mut self.children, self.start, before);
+            insert_text(&mut self.children, end, after);
+            insert_text(&mut self.children, self.start, before);
         }
         self.leave();
         Ok(())

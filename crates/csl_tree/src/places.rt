@@ -45,8 +45,8 @@ impl ElemChildren {
     }
 
     /// Whether the walk goes on in a child.
-    fn goes_on(&mut self, to: Target) -> bool
-        ensures value { result ≡ walk.goes_on to self.old }
+    fn has_next(&mut self, to: Target) -> bool
+        ensures value { result ≡ walk.has_next to self.old }
         ensures unchanged { self.new ≡ self.old }
     {
         self.next_towards(to).is_some()
@@ -54,7 +54,7 @@ impl ElemChildren {
 
     /// The child in which the walk goes on, as a mutable reference. It must go on.
     fn child_mut_towards(&mut self, to: Target) -> &mut ElemChild
-        requires { IsTrue (walk.goes_on to self.old) }
+        requires { IsTrue (walk.has_next to self.old) }
         ensures* writes_back { sem 𝓛 (walk.lends_child_towards to self.entry result) }
         ensures value { result.now ≡ spec.child_at self.old (walk.index_towards to self.old) }
     {
@@ -78,7 +78,7 @@ impl ElemChildren {
         ensures* writes_back { sem 𝓛 (walk.lends_items_towards to self.entry result) }
         ensures value { result.now ≡ walk.items_towards to self.old }
     {
-        if self.goes_on(to) {
+        if self.has_next(to) {
             self.child_mut_towards(to)
                 .children_mut()
                 .items_mut_towards(to)

@@ -52,11 +52,11 @@ delimiter_char_is Comma = refl
 delimiter_char_is Ampersand = refl
 delimiter_char_is Hyphen = refl
 
-pub delimiter_complete : (d : NumericDelimiter) (before behind rest : List ℕ) → IsBlank before → IsBlank behind → Stops is_whitespace rest → delimiter_at (before ++ (delimiter_char d ∷ (behind ++ rest))) ≡ Some (d, rest)
+pub delimiter_complete : (d : NumericDelimiter) (before after rest : List ℕ) → IsBlank before → IsBlank after → Stops is_whitespace rest → delimiter_at (before ++ (delimiter_char d ∷ (after ++ rest))) ≡ Some (d, rest)
 unfolding delimiter_at
-delimiter_complete d before behind rest blank_before blank_behind stops =
+delimiter_complete d before after rest blank_before blank_after stops =
     let sep : is_whitespace (delimiter_char d) ≡ false = delimiter_is_no_space (delimiter_char d) (delimiter_char_is d) in
-    rw (after_is is_whitespace before (delimiter_char d ∷ (behind ++ rest)) blank_before sep, delimiter_of_char d, after_is is_whitespace behind rest blank_behind stops) refl
+    rw (after_is is_whitespace before (delimiter_char d ∷ (after ++ rest)) blank_before sep, delimiter_of_char d, after_is is_whitespace after rest blank_after stops) refl
 
 -- ---- several numbers
 
@@ -64,8 +64,8 @@ delimiter_complete d before behind rest blank_before blank_behind stops =
 pub begins_with_digit : (p : ℕ → Bool) (xs : Numbers) (cs tail : List ℕ) → ((c : ℕ) → is_ascii_digit c ≡ true → p c ≡ false) → SpellsIntegers xs cs → Stops p (cs ++ tail)
 begins_with_digit p [] cs tail apart s = absurd s
 begins_with_digit p (x ∷ []) cs tail apart s = stops_first p is_ascii_digit cs tail apart s.1.digits s.1.nonempty
-begins_with_digit p (x ∷ y ∷ more) cs tail apart (d, digits, before, behind, rest, has, whole, spelled, blank_before, blank_behind, others) =
-    let tail' = before ++ (delimiter_char d ∷ (behind ++ rest)) in
+begins_with_digit p (x ∷ y ∷ more) cs tail apart (d, digits, before, after, rest, has, whole, spelled, blank_before, blank_after, others) =
+    let tail' = before ++ (delimiter_char d ∷ (after ++ rest)) in
     subst (λ (z : List ℕ). Stops p (z ++ tail)) (sym whole)
     (subst (Stops p) (sym (append_assoc digits tail' tail)) (stops_first p is_ascii_digit digits (tail' ++ tail) apart spelled.digits spelled.nonempty))
 
@@ -75,33 +75,33 @@ gap_ends_digits d before rest blank =
     let sep : is_ascii_digit (delimiter_char d) ≡ false = excluded (is_ascii_digit (delimiter_char d)) (is_delimiter (delimiter_char d)) (digit_is_no_delimiter (delimiter_char d)) (delimiter_char_is d) in
     stops_by is_ascii_digit is_whitespace before (delimiter_char d ∷ rest) space_is_no_digit blank sep
 
-regroup : (digits before behind rest tail : List ℕ) (c : ℕ) → (digits ++ (before ++ (c ∷ (behind ++ rest)))) ++ tail ≡ digits ++ (before ++ (c ∷ (behind ++ (rest ++ tail))))
-regroup digits before behind rest tail c =
-    append_assoc digits (before ++ (c ∷ (behind ++ rest))) tail
-    ∙ ap (λ (x : List ℕ). digits ++ x) (append_assoc before (c ∷ (behind ++ rest)) tail ∙ ap (λ (x : List ℕ). before ++ (c ∷ x)) (append_assoc behind rest tail))
+regroup : (digits before after rest tail : List ℕ) (c : ℕ) → (digits ++ (before ++ (c ∷ (after ++ rest)))) ++ tail ≡ digits ++ (before ++ (c ∷ (after ++ (rest ++ tail))))
+regroup digits before after rest tail c =
+    append_assoc digits (before ++ (c ∷ (after ++ rest))) tail
+    ∙ ap (λ (x : List ℕ). digits ++ x) (append_assoc before (c ∷ (after ++ rest)) tail ∙ ap (λ (x : List ℕ). before ++ (c ∷ x)) (append_assoc after rest tail))
 
 pub integers_complete : (x : ℤ × Option NumericDelimiter) (more : Numbers) (cs tail : List ℕ) → SpellsIntegers (x ∷ more) cs → Stops is_ascii_digit tail → integers_at (length more) (cs ++ tail) ≡ Some (x ∷ more, tail)
 unfolding integers_at
 integers_complete x [] cs tail s stops =
     rw (integer_complete x.0 cs tail s.1 stops) (ap (λ (o : Option NumericDelimiter). Some ((x.0, o) ∷ [], tail)) (sym s.0))
-integers_complete x (y ∷ more) cs tail (d, digits, before, behind, rest, has, whole, spelled, blank_before, blank_behind, others) stops =
-    let grouped = ap (λ (z : List ℕ). z ++ tail) whole ∙ regroup digits before behind rest tail (delimiter_char d) in
-    let first = integer_complete x.0 digits (before ++ (delimiter_char d ∷ (behind ++ (rest ++ tail)))) spelled (gap_ends_digits d before (behind ++ (rest ++ tail)) blank_before) in
-    let second = delimiter_complete d before behind (rest ++ tail) blank_before blank_behind (begins_with_digit is_whitespace (y ∷ more) rest tail digit_is_no_space others) in
+integers_complete x (y ∷ more) cs tail (d, digits, before, after, rest, has, whole, spelled, blank_before, blank_after, others) stops =
+    let grouped = ap (λ (z : List ℕ). z ++ tail) whole ∙ regroup digits before after rest tail (delimiter_char d) in
+    let first = integer_complete x.0 digits (before ++ (delimiter_char d ∷ (after ++ (rest ++ tail)))) spelled (gap_ends_digits d before (after ++ (rest ++ tail)) blank_before) in
+    let second = delimiter_complete d before after (rest ++ tail) blank_before blank_after (begins_with_digit is_whitespace (y ∷ more) rest tail digit_is_no_space others) in
     let third = integers_complete y more rest tail others stops in
     ap (integers_at (suc (length more))) grouped ∙ rw (first, second, third) (ap (λ (o : Option NumericDelimiter). Some ((x.0, o) ∷ y ∷ more, tail)) (sym has))
 
 -- the text of several numbers has one delimiter fewer than numbers
 pub count_integers : (x : ℤ × Option NumericDelimiter) (more : Numbers) (cs : List ℕ) → SpellsIntegers (x ∷ more) cs → count_by is_delimiter cs ≡ length more
 count_integers x [] cs s = count_none is_delimiter is_ascii_digit cs digit_is_no_delimiter s.1.digits
-count_integers x (y ∷ more) cs (d, digits, before, behind, rest, has, whole, spelled, blank_before, blank_behind, others) =
+count_integers x (y ∷ more) cs (d, digits, before, after, rest, has, whole, spelled, blank_before, blank_after, others) =
     let a = count_none is_delimiter is_ascii_digit digits digit_is_no_delimiter spelled.digits in
     let b = count_none is_delimiter is_whitespace before space_is_no_delimiter blank_before in
-    let c = count_none is_delimiter is_whitespace behind space_is_no_delimiter blank_behind in
+    let c = count_none is_delimiter is_whitespace after space_is_no_delimiter blank_after in
     let r = count_integers y more rest others in
     let sep : is_delimiter (delimiter_char d) ≡ true = delimiter_char_is d in
-    let inner : count_by is_delimiter (delimiter_char d ∷ (behind ++ rest)) ≡ suc (length more) = count_yes is_delimiter (delimiter_char d) (behind ++ rest) sep ∙ ap suc (omega (arith, count_append is_delimiter behind rest, c, r)) in
-    ap (count_by is_delimiter) whole ∙ omega (arith, count_append is_delimiter digits (before ++ (delimiter_char d ∷ (behind ++ rest))), count_append is_delimiter before (delimiter_char d ∷ (behind ++ rest)), a, b, inner)
+    let inner : count_by is_delimiter (delimiter_char d ∷ (after ++ rest)) ≡ suc (length more) = count_yes is_delimiter (delimiter_char d) (after ++ rest) sep ∙ ap suc (omega (arith, count_append is_delimiter after rest, c, r)) in
+    ap (count_by is_delimiter) whole ∙ omega (arith, count_append is_delimiter digits (before ++ (delimiter_char d ∷ (after ++ rest))), count_append is_delimiter before (delimiter_char d ∷ (after ++ rest)), a, b, inner)
 
 -- ---- a number with its prefix and suffix
 

@@ -9,7 +9,7 @@ use Rattle.std.proofs.Math.Seq.{drop-append_seam}
 use Rattle.std.proofs.lemmas.List.{length-append}
 use Rattle.std.proofs.lemmas.Str.{encodes-append, encodes-chars, IsUtf8-past_char, chars_past_char, chars-nil}
 use Rattle.unicode.specs.GeneralCategory.{general_category}
-use Rattle.lit_model.specs.FirstNames.{is_capital, is_single_capital, without_dot, single_letter, letter_or_word, last_letter_or_word, space_behind, lettered_words}
+use Rattle.lit_model.specs.FirstNames.{is_capital, is_single_capital, without_dot, single_letter, letter_or_word, last_letter_or_word, space_after, lettered_words}
 use Rattle.lit_model.specs.Marked.{gap_after, names_text}
 
 -- ---- one uppercase letter
@@ -74,7 +74,7 @@ trimmed text u =
 
 -- A word written as the last one, then the gap after it, has the same bytes as the word written as
 -- any other one, then the space after it.
-gap_written : (text w : List ℕ) (o : Option (List ℕ)) → IsUtf8 text → last_letter_or_word text o w ++ gap_after text o ≡ letter_or_word text o w ++ space_behind text o
+gap_written : (text w : List ℕ) (o : Option (List ℕ)) → IsUtf8 text → last_letter_or_word text o w ++ gap_after text o ≡ letter_or_word text o w ++ space_after text o
 gap_written text w None u = refl
 gap_written text w (Some letter) u = written (trimmed text u) (nat_lt (length (trim_end text)) (length text)) refl
   where
@@ -97,7 +97,7 @@ written_names text gap w (v ∷ ws) u =
     ap (λ (x : List ℕ). gap ++ x) (ap (λ (x : List ℕ). last_letter_or_word text o w ++ x) (written_names text (gap_after text o) v ws u)
     ∙ sym (append_assoc (last_letter_or_word text o w) (gap_after text o) (lettered_words text (v ∷ ws)))
     ∙ ap (λ (x : List ℕ). x ++ lettered_words text (v ∷ ws)) (gap_written text w o u)
-    ∙ append_assoc (letter_or_word text o w) (space_behind text o) (lettered_words text (v ∷ ws)))
+    ∙ append_assoc (letter_or_word text o w) (space_after text o) (lettered_words text (v ∷ ws)))
 
 -- the written text of all words is the defined one
 pub all_written : (text : List ℕ) (ws : List (List ℕ)) → IsUtf8 text → names_text text [] ws ≡ lettered_words text ws

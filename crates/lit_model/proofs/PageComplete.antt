@@ -58,10 +58,10 @@ page_complete v cs tail s ends =
 
 -- ---- a range mark, a separator
 
-mark_complete : (c : ℕ) (before behind rest : List ℕ) → is_range_mark c ≡ true → IsBlank before → IsBlank behind → Stops is_whitespace rest → mark_at (before ++ (c ∷ (behind ++ rest))) ≡ Some rest
+mark_complete : (c : ℕ) (before after rest : List ℕ) → is_range_mark c ≡ true → IsBlank before → IsBlank after → Stops is_whitespace rest → mark_at (before ++ (c ∷ (after ++ rest))) ≡ Some rest
 unfolding mark_at
-mark_complete c before behind rest is blank_before blank_behind stops =
-    rw (after_is is_whitespace before (c ∷ (behind ++ rest)) blank_before (mark_is_no_space c is), is, after_is is_whitespace behind rest blank_behind stops) refl
+mark_complete c before after rest is blank_before blank_after stops =
+    rw (after_is is_whitespace before (c ∷ (after ++ rest)) blank_before (mark_is_no_space c is), is, after_is is_whitespace after rest blank_after stops) refl
 
 separator_char : (s : PartView) (c : ℕ) → SpellsSeparator s c → (is_separator c ≡ true) × (separator_of c ≡ Some s)
 separator_char ampersand c h = (rw h refl, rw h refl)
@@ -70,11 +70,11 @@ separator_char (escaped v w) c h = absurd h
 separator_char (single v) c h = absurd h
 separator_char (range v w) c h = absurd h
 
-separator_complete : (s : PartView) (c : ℕ) (before behind rest : List ℕ) → SpellsSeparator s c → IsBlank before → IsBlank behind → Stops is_whitespace rest → separator_at (before ++ (c ∷ (behind ++ rest))) ≡ Some (s, rest)
+separator_complete : (s : PartView) (c : ℕ) (before after rest : List ℕ) → SpellsSeparator s c → IsBlank before → IsBlank after → Stops is_whitespace rest → separator_at (before ++ (c ∷ (after ++ rest))) ≡ Some (s, rest)
 unfolding separator_at
-separator_complete s c before behind rest is blank_before blank_behind stops =
+separator_complete s c before after rest is blank_before blank_after stops =
     let k = separator_char s c is in
-    rw (after_is is_whitespace before (c ∷ (behind ++ rest)) blank_before (separator_is_no_space c k.0), k.1, after_is is_whitespace behind rest blank_behind stops) refl
+    rw (after_is is_whitespace before (c ∷ (after ++ rest)) blank_before (separator_is_no_space c k.0), k.1, after_is is_whitespace after rest blank_after stops) refl
 
 -- a character that is no affix character and no digit ends a page, also after white space
 gap_ends : (c : ℕ) (before rest : List ℕ) → IsBlank before → is_page_affix c ≡ false → is_ascii_digit c ≡ false → Ends (before ++ (c ∷ rest))
@@ -106,10 +106,10 @@ unfolding item_from
 item_from_range v w a b rest h = rw h refl
 
 -- five pieces and the characters after them, regrouped
-regroup : (first before behind last tail : List ℕ) (c : ℕ) → (first ++ (before ++ (c ∷ (behind ++ last)))) ++ tail ≡ first ++ (before ++ (c ∷ (behind ++ (last ++ tail))))
-regroup first before behind last tail c =
-    append_assoc first (before ++ (c ∷ (behind ++ last))) tail
-    ∙ ap (λ (x : List ℕ). first ++ x) (append_assoc before (c ∷ (behind ++ last)) tail ∙ ap (λ (x : List ℕ). before ++ (c ∷ x)) (append_assoc behind last tail))
+regroup : (first before after last tail : List ℕ) (c : ℕ) → (first ++ (before ++ (c ∷ (after ++ last)))) ++ tail ≡ first ++ (before ++ (c ∷ (after ++ (last ++ tail))))
+regroup first before after last tail c =
+    append_assoc first (before ++ (c ∷ (after ++ last))) tail
+    ∙ ap (λ (x : List ℕ). first ++ x) (append_assoc before (c ∷ (after ++ last)) tail ∙ ap (λ (x : List ℕ). before ++ (c ∷ x)) (append_assoc after last tail))
 
 page_no_space : (v : NumericView) (cs tail : List ℕ) → SpellsPage v cs → Stops is_whitespace (cs ++ tail)
 page_no_space v cs tail s = page_stops is_whitespace v cs tail (λ c h. (page_affix_is_other c h).1) digit_is_no_space s
@@ -121,11 +121,11 @@ item_complete comma cs tail s ends unmarked = absurd s
 item_complete (escaped v w) cs tail s ends unmarked = absurd s
 item_complete (single v) cs tail s ends unmarked = rw (page_complete v cs tail s ends, unmarked) (item_from_single v tail)
 item_complete (range v w) cs tail s ends unmarked =
-    let behind = s.mark ∷ (s.behind ++ (s.last ++ tail)) in
-    let first : page_at (s.first ++ (s.before ++ behind)) ≡ Some (v, s.before ++ behind) = page_complete v s.first (s.before ++ behind) s.has_first (gap_ends s.mark s.before (s.behind ++ (s.last ++ tail)) s.blank_before (mark_is_no_affix s.mark s.is_mark) (mark_is_no_digit s.mark s.is_mark)) in
-    let mark : mark_at (s.before ++ behind) ≡ Some (s.last ++ tail) = mark_complete s.mark s.before s.behind (s.last ++ tail) s.is_mark s.blank_before s.blank_behind (page_no_space w s.last tail s.has_last) in
-    ap item_at (ap (λ (x : List ℕ). x ++ tail) s.whole ∙ regroup s.first s.before s.behind s.last tail s.mark)
-    ∙ rw (first, mark) (item_from_range v w (s.before ++ behind) (s.last ++ tail) tail (page_complete w s.last tail s.has_last ends))
+    let after = s.mark ∷ (s.after ++ (s.last ++ tail)) in
+    let first : page_at (s.first ++ (s.before ++ after)) ≡ Some (v, s.before ++ after) = page_complete v s.first (s.before ++ after) s.has_first (gap_ends s.mark s.before (s.after ++ (s.last ++ tail)) s.blank_before (mark_is_no_affix s.mark s.is_mark) (mark_is_no_digit s.mark s.is_mark)) in
+    let mark : mark_at (s.before ++ after) ≡ Some (s.last ++ tail) = mark_complete s.mark s.before s.after (s.last ++ tail) s.is_mark s.blank_before s.blank_after (page_no_space w s.last tail s.has_last) in
+    ap item_at (ap (λ (x : List ℕ). x ++ tail) s.whole ∙ regroup s.first s.before s.after s.last tail s.mark)
+    ∙ rw (first, mark) (item_from_range v w (s.before ++ after) (s.last ++ tail) tail (page_complete w s.last tail s.has_last ends))
 
 item_no_space : (p : PartView) (cs tail : List ℕ) → SpellsItem p cs → Stops is_whitespace (cs ++ tail)
 item_no_space ampersand cs tail s = absurd s
@@ -133,8 +133,8 @@ item_no_space comma cs tail s = absurd s
 item_no_space (escaped v w) cs tail s = absurd s
 item_no_space (single v) cs tail s = page_no_space v cs tail s
 item_no_space (range v w) cs tail s =
-    subst (Stops is_whitespace) (sym (ap (λ (x : List ℕ). x ++ tail) s.whole ∙ regroup s.first s.before s.behind s.last tail s.mark))
-    (page_no_space v s.first (s.before ++ (s.mark ∷ (s.behind ++ (s.last ++ tail)))) s.has_first)
+    subst (Stops is_whitespace) (sym (ap (λ (x : List ℕ). x ++ tail) s.whole ∙ regroup s.first s.before s.after s.last tail s.mark))
+    (page_no_space v s.first (s.before ++ (s.mark ∷ (s.after ++ (s.last ++ tail)))) s.has_first)
 
 -- ---- all items
 
@@ -147,23 +147,23 @@ pairs (s ∷ q ∷ more) = suc (pairs more)
 parts_no_space : (p : PartView) (more : Parts) (cs tail : List ℕ) → SpellsParts (p ∷ more) cs → Stops is_whitespace (cs ++ tail)
 parts_no_space p [] cs tail s = item_no_space p cs tail s
 parts_no_space p (q ∷ []) cs tail s = absurd s
-parts_no_space p (q ∷ r ∷ more) cs tail (item, before, c, behind, rest, whole, spelled, blank_before, is, blank_behind, others) =
-    subst (Stops is_whitespace) (sym (ap (λ (x : List ℕ). x ++ tail) whole ∙ regroup item before behind rest tail c))
-    (item_no_space p item (before ++ (c ∷ (behind ++ (rest ++ tail)))) spelled)
+parts_no_space p (q ∷ r ∷ more) cs tail (item, before, c, after, rest, whole, spelled, blank_before, is, blank_after, others) =
+    subst (Stops is_whitespace) (sym (ap (λ (x : List ℕ). x ++ tail) whole ∙ regroup item before after rest tail c))
+    (item_no_space p item (before ++ (c ∷ (after ++ (rest ++ tail)))) spelled)
 
 parts_complete : (p : PartView) (more : Parts) (cs tail : List ℕ) → SpellsParts (p ∷ more) cs → Ends tail → mark_at tail ≡ None → parts_at (pairs more) (cs ++ tail) ≡ Some (p ∷ more, tail)
 unfolding parts_at
 parts_complete p [] cs tail s ends unmarked = rw (item_complete p cs tail s ends unmarked) refl
 parts_complete p (q ∷ []) cs tail s ends unmarked = absurd s
-parts_complete p (q ∷ r ∷ more) cs tail (item, before, c, behind, rest, whole, spelled, blank_before, is, blank_behind, others) ends unmarked =
+parts_complete p (q ∷ r ∷ more) cs tail (item, before, c, after, rest, whole, spelled, blank_before, is, blank_after, others) ends unmarked =
     let k = separator_char q c is in
-    let next = before ++ (c ∷ (behind ++ (rest ++ tail))) in
+    let next = before ++ (c ∷ (after ++ (rest ++ tail))) in
     let first : item_at (item ++ next) ≡ Some (p, next) = item_complete p item next spelled
-    (gap_ends c before (behind ++ (rest ++ tail)) blank_before (separator_is_no_affix c k.0) (separator_is_no_digit c k.0))
-    (no_mark_before c before (behind ++ (rest ++ tail)) blank_before (separator_is_no_space c k.0) (separator_is_no_mark c k.0)) in
-    let second : separator_at next ≡ Some (q, rest ++ tail) = separator_complete q c before behind (rest ++ tail) is blank_before blank_behind (parts_no_space r more rest tail others) in
+    (gap_ends c before (after ++ (rest ++ tail)) blank_before (separator_is_no_affix c k.0) (separator_is_no_digit c k.0))
+    (no_mark_before c before (after ++ (rest ++ tail)) blank_before (separator_is_no_space c k.0) (separator_is_no_mark c k.0)) in
+    let second : separator_at next ≡ Some (q, rest ++ tail) = separator_complete q c before after (rest ++ tail) is blank_before blank_after (parts_no_space r more rest tail others) in
     let third = parts_complete r more rest tail others ends unmarked in
-    ap (parts_at (suc (pairs more))) (ap (λ (x : List ℕ). x ++ tail) whole ∙ regroup item before behind rest tail c) ∙ rw (first, second, third) refl
+    ap (parts_at (suc (pairs more))) (ap (λ (x : List ℕ). x ++ tail) whole ∙ regroup item before after rest tail c) ∙ rw (first, second, third) refl
 
 -- ---- the number of separators in a text
 
@@ -179,12 +179,12 @@ count_no p c cs h = let none : count_by p (c ∷ []) ≡ 0 = rw h refl in omega 
 
 -- if the pieces before a character have no separator, and the character counts k, then the whole
 -- has k more than the last piece
-count_around : (first before behind last : List ℕ) (c : ℕ) (k : ℕ) → IsBlank before → IsBlank behind → count_by is_separator first ≡ 0 → count_by is_separator (c ∷ (behind ++ last)) ≡ k + count_by is_separator (behind ++ last)
-    → count_by is_separator (first ++ (before ++ (c ∷ (behind ++ last)))) ≡ k + count_by is_separator last
-count_around first before behind last c k blank_before blank_behind none here =
+count_around : (first before after last : List ℕ) (c : ℕ) (k : ℕ) → IsBlank before → IsBlank after → count_by is_separator first ≡ 0 → count_by is_separator (c ∷ (after ++ last)) ≡ k + count_by is_separator (after ++ last)
+    → count_by is_separator (first ++ (before ++ (c ∷ (after ++ last)))) ≡ k + count_by is_separator last
+count_around first before after last c k blank_before blank_after none here =
     let a = count_none is_separator is_whitespace before space_is_no_separator blank_before in
-    let b = count_none is_separator is_whitespace behind space_is_no_separator blank_behind in
-    omega (arith, count_append is_separator first (before ++ (c ∷ (behind ++ last))), count_append is_separator before (c ∷ (behind ++ last)), count_append is_separator behind last, a, b, none, here)
+    let b = count_none is_separator is_whitespace after space_is_no_separator blank_after in
+    omega (arith, count_append is_separator first (before ++ (c ∷ (after ++ last))), count_append is_separator before (c ∷ (after ++ last)), count_append is_separator after last, a, b, none, here)
 
 count_item : (p : PartView) (cs : List ℕ) → SpellsItem p cs → count_by is_separator cs ≡ 0
 count_item ampersand cs s = absurd s
@@ -193,16 +193,16 @@ count_item (escaped v w) cs s = absurd s
 count_item (single v) cs s = count_page v cs s
 count_item (range v w) cs s =
     ap (count_by is_separator) s.whole
-    ∙ count_around s.first s.before s.behind s.last s.mark 0 s.blank_before s.blank_behind (count_page v s.first s.has_first) (omega (arith, count_no is_separator s.mark (s.behind ++ s.last) (mark_is_no_separator s.mark s.is_mark)))
+    ∙ count_around s.first s.before s.after s.last s.mark 0 s.blank_before s.blank_after (count_page v s.first s.has_first) (omega (arith, count_no is_separator s.mark (s.after ++ s.last) (mark_is_no_separator s.mark s.is_mark)))
     ∙ omega (arith, count_page w s.last s.has_last)
 
 count_parts : (p : PartView) (more : Parts) (cs : List ℕ) → SpellsParts (p ∷ more) cs → count_by is_separator cs ≡ pairs more
 count_parts p [] cs s = count_item p cs s
 count_parts p (q ∷ []) cs s = absurd s
-count_parts p (q ∷ r ∷ more) cs (item, before, c, behind, rest, whole, spelled, blank_before, is, blank_behind, others) =
+count_parts p (q ∷ r ∷ more) cs (item, before, c, after, rest, whole, spelled, blank_before, is, blank_after, others) =
     let k = separator_char q c is in
     ap (count_by is_separator) whole
-    ∙ count_around item before behind rest c 1 blank_before blank_behind (count_item p item spelled) (omega (arith, count_yes is_separator c (behind ++ rest) k.0))
+    ∙ count_around item before after rest c 1 blank_before blank_after (count_item p item spelled) (omega (arith, count_yes is_separator c (after ++ rest) k.0))
     ∙ omega (arith, count_parts r more rest others)
 
 -- if characters spell pages, the parser reads them

@@ -74,13 +74,13 @@ item_spelled (range v u) w = record {
   first = chars (numeric_text v);
   before = [];
   mark = 45;
-  behind = [];
+  after = [];
   last = chars (numeric_text u);
   whole = chars_around (numeric_text v) (codes "-") (numeric_text u) (page_utf8 v w.0) dash_ascii;
   is_mark = refl;
   has_first = page_spelled v w.0;
   blank_before = tt;
-  blank_behind = tt;
+  blank_after = tt;
   has_last = page_spelled u w.1;
 }
 
@@ -90,16 +90,16 @@ item_spelled (range v u) w = record {
 record Separates (s : PartView) : Type 0 where
   before : List ℕ
   c : ℕ
-  behind : List ℕ
-  text : part_text s ≡ before ++ (c ∷ behind)
+  after : List ℕ
+  text : part_text s ≡ before ++ (c ∷ after)
   blank_before : IsBlank before
   is : SpellsSeparator s c
-  blank_behind : IsBlank behind
+  blank_after : IsBlank after
   ascii : IsAscii (part_text s)
 
 separates : (s : PartView) → IsSeparator s → Separates s
-separates ampersand h = record { before = 32 ∷ []; c = 38; behind = 32 ∷ []; text = refl; blank_before = (refl, tt); is = refl; blank_behind = (refl, tt); ascii = ascii_cons 32 (38 ∷ 32 ∷ []) (lit< tt) (ascii_cons 38 (32 ∷ []) (lit< tt) (ascii_cons 32 [] (lit< tt) ascii_nil)) }
-separates comma h = record { before = []; c = 44; behind = 32 ∷ []; text = refl; blank_before = tt; is = refl; blank_behind = (refl, tt); ascii = ascii_cons 44 (32 ∷ []) (lit< tt) (ascii_cons 32 [] (lit< tt) ascii_nil) }
+separates ampersand h = record { before = 32 ∷ []; c = 38; after = 32 ∷ []; text = refl; blank_before = (refl, tt); is = refl; blank_after = (refl, tt); ascii = ascii_cons 32 (38 ∷ 32 ∷ []) (lit< tt) (ascii_cons 38 (32 ∷ []) (lit< tt) (ascii_cons 32 [] (lit< tt) ascii_nil)) }
+separates comma h = record { before = []; c = 44; after = 32 ∷ []; text = refl; blank_before = tt; is = refl; blank_after = (refl, tt); ascii = ascii_cons 44 (32 ∷ []) (lit< tt) (ascii_cons 32 [] (lit< tt) ascii_nil) }
 separates (escaped v w) h = absurd h
 separates (single v) h = absurd h
 separates (range v w) h = absurd h
@@ -111,10 +111,10 @@ parts_spelled (p ∷ s ∷ []) w = absurd w
 parts_spelled (p ∷ s ∷ q ∷ more) w =
     let sep = separates s w.1 in
     let rest = pages_text (q ∷ more) in
-    let inner : part_text s ++ chars rest ≡ sep.before ++ (sep.c ∷ (sep.behind ++ chars rest)) = ap (λ (x : List ℕ). x ++ chars rest) sep.text ∙ append_assoc sep.before (sep.c ∷ sep.behind) (chars rest) in
-    let all : chars (pages_text (p ∷ s ∷ q ∷ more)) ≡ chars (part_text p) ++ (sep.before ++ (sep.c ∷ (sep.behind ++ chars rest))) =
+    let inner : part_text s ++ chars rest ≡ sep.before ++ (sep.c ∷ (sep.after ++ chars rest)) = ap (λ (x : List ℕ). x ++ chars rest) sep.text ∙ append_assoc sep.before (sep.c ∷ sep.after) (chars rest) in
+    let all : chars (pages_text (p ∷ s ∷ q ∷ more)) ≡ chars (part_text p) ++ (sep.before ++ (sep.c ∷ (sep.after ++ chars rest))) =
     chars_around (part_text p) (part_text s) rest (item_utf8 p w.0) sep.ascii ∙ ap (λ (x : List ℕ). chars (part_text p) ++ x) inner in
-    (chars (part_text p), sep.before, sep.c, sep.behind, chars rest, all, item_spelled p w.0, sep.blank_before, sep.is, sep.blank_behind, parts_spelled (q ∷ more) w.2)
+    (chars (part_text p), sep.before, sep.c, sep.after, chars rest, all, item_spelled p w.0, sep.blank_before, sep.is, sep.blank_after, parts_spelled (q ∷ more) w.2)
 
 -- the text of writable pages spells them
 pub pages_spelled : (ps : Parts) → AreWritable ps → SpellsPages ps (chars (pages_text ps))
@@ -136,12 +136,12 @@ page_writable v cs is_scalar s =
     }
 
 -- if the whole has only scalar values, so have the pieces before and after a character
-scalars_around : (first before behind last : List ℕ) (c : ℕ) (cs : List ℕ) → cs ≡ first ++ (before ++ (c ∷ (behind ++ last))) → all_scalars cs ≡ true → (all_scalars first ≡ true) × (all_scalars last ≡ true)
-scalars_around first before behind last c cs whole is_scalar =
-    let a = scalars_parts first (before ++ (c ∷ (behind ++ last))) (sym (ap all_scalars whole) ∙ is_scalar) in
-    let b = scalars_parts before (c ∷ (behind ++ last)) a.1 in
-    let d = scalars_parts (c ∷ []) (behind ++ last) b.1 in
-    let e = scalars_parts behind last d.1 in
+scalars_around : (first before after last : List ℕ) (c : ℕ) (cs : List ℕ) → cs ≡ first ++ (before ++ (c ∷ (after ++ last))) → all_scalars cs ≡ true → (all_scalars first ≡ true) × (all_scalars last ≡ true)
+scalars_around first before after last c cs whole is_scalar =
+    let a = scalars_parts first (before ++ (c ∷ (after ++ last))) (sym (ap all_scalars whole) ∙ is_scalar) in
+    let b = scalars_parts before (c ∷ (after ++ last)) a.1 in
+    let d = scalars_parts (c ∷ []) (after ++ last) b.1 in
+    let e = scalars_parts after last d.1 in
     (a.0, e.1)
 
 item_writable : (p : PartView) (cs : List ℕ) → all_scalars cs ≡ true → SpellsItem p cs → IsWritableItem p
@@ -150,7 +150,7 @@ item_writable comma cs is_scalar s = absurd s
 item_writable (escaped v w) cs is_scalar s = absurd s
 item_writable (single v) cs is_scalar s = page_writable v cs is_scalar s
 item_writable (range v w) cs is_scalar s =
-    let k = scalars_around s.first s.before s.behind s.last s.mark cs s.whole is_scalar in
+    let k = scalars_around s.first s.before s.after s.last s.mark cs s.whole is_scalar in
     (page_writable v s.first k.0 s.has_first, page_writable w s.last k.1 s.has_last)
 
 separator_writable : (s : PartView) (c : ℕ) → SpellsSeparator s c → IsSeparator s
@@ -164,8 +164,8 @@ parts_writable : (ps : Parts) (cs : List ℕ) → all_scalars cs ≡ true → Sp
 parts_writable [] cs is_scalar s = absurd s
 parts_writable (p ∷ []) cs is_scalar s = item_writable p cs is_scalar s
 parts_writable (p ∷ q ∷ []) cs is_scalar s = absurd s
-parts_writable (p ∷ q ∷ r ∷ more) cs is_scalar (item, before, c, behind, rest, whole, spelled, blank_before, is, blank_behind, others) =
-    let k = scalars_around item before behind rest c cs whole is_scalar in
+parts_writable (p ∷ q ∷ r ∷ more) cs is_scalar (item, before, c, after, rest, whole, spelled, blank_before, is, blank_after, others) =
+    let k = scalars_around item before after rest c cs whole is_scalar in
     (item_writable p item k.0 spelled, separator_writable q c is, parts_writable (r ∷ more) rest k.1 others)
 
 pub pages_writable : (ps : Parts) (cs : List ℕ) → all_scalars cs ≡ true → SpellsPages ps cs → AreWritable ps

@@ -56,11 +56,11 @@ page_sound cs x h =
 pub record HasCharacter (P : ℕ → Type 0) (cs rest : List ℕ) : Type 0 where
   pub before : List ℕ
   pub c : ℕ
-  pub behind : List ℕ
-  pub whole : cs ≡ before ++ (c ∷ (behind ++ rest))
+  pub after : List ℕ
+  pub whole : cs ≡ before ++ (c ∷ (after ++ rest))
   pub blank_before : IsBlank before
   pub is : P c
-  pub blank_behind : IsBlank behind
+  pub blank_after : IsBlank after
 
 -- a character with white space before and after it
 behind_space : (P : ℕ → Type 0) (cs : List ℕ) (c : ℕ) (tail rest : List ℕ) → after_longest_prefix is_whitespace cs ≡ c ∷ tail → after_longest_prefix is_whitespace tail ≡ rest → P c → HasCharacter P cs rest
@@ -68,11 +68,11 @@ behind_space P cs c tail rest here ends is =
     record {
       before = longest_prefix is_whitespace cs;
       c = c;
-      behind = longest_prefix is_whitespace tail;
+      after = longest_prefix is_whitespace tail;
       whole = front_after is_whitespace cs ∙ ap (λ (r : List ℕ). longest_prefix is_whitespace cs ++ r) (here ∙ ap (λ (r : List ℕ). c ∷ r) (front_after is_whitespace tail ∙ ap (λ (r : List ℕ). longest_prefix is_whitespace tail ++ r) ends));
       blank_before = Only-front is_whitespace cs;
       is = is;
-      blank_behind = Only-front is_whitespace tail;
+      blank_after = Only-front is_whitespace tail;
     }
 
 mark_from : (cs : List ℕ) (tail rest : List ℕ) → after_longest_prefix is_whitespace cs ≡ tail → mark_first tail ≡ Some rest → HasCharacter (λ c. is_range_mark c ≡ true) cs rest
@@ -109,10 +109,10 @@ separator_sound cs x h = separator_from cs (after_longest_prefix is_whitespace c
 -- ---- an item
 
 -- a text, a character with white space around it, and another text
-joined : (P Q : List ℕ → Type 0) (R : ℕ → Type 0) (cs a b rest : List ℕ) (first : Begins P cs a) (mark : HasCharacter R a b) (last : Begins Q b rest) → cs ≡ (first.text ++ (mark.before ++ (mark.c ∷ (mark.behind ++ last.text)))) ++ rest
+joined : (P Q : List ℕ → Type 0) (R : ℕ → Type 0) (cs a b rest : List ℕ) (first : Begins P cs a) (mark : HasCharacter R a b) (last : Begins Q b rest) → cs ≡ (first.text ++ (mark.before ++ (mark.c ∷ (mark.after ++ last.text)))) ++ rest
 joined P Q R cs a b rest first mark last =
-    let tail = mark.c ∷ (mark.behind ++ last.text) in
-    let inner : mark.c ∷ (mark.behind ++ b) ≡ tail ++ rest = ap (λ (x : List ℕ). mark.c ∷ x) (ap (λ (x : List ℕ). mark.behind ++ x) last.whole ∙ sym (append_assoc mark.behind last.text rest)) in
+    let tail = mark.c ∷ (mark.after ++ last.text) in
+    let inner : mark.c ∷ (mark.after ++ b) ≡ tail ++ rest = ap (λ (x : List ℕ). mark.c ∷ x) (ap (λ (x : List ℕ). mark.after ++ x) last.whole ∙ sym (append_assoc mark.after last.text rest)) in
     first.whole ∙ ap (λ (x : List ℕ). first.text ++ x) (mark.whole ∙ ap (λ (x : List ℕ). mark.before ++ x) inner ∙ sym (append_assoc mark.before tail rest)) ∙ sym (append_assoc first.text (mark.before ++ tail) rest)
 
 item_from_sound : (cs : List ℕ) (v : NumericView × List ℕ) (o : Option (List ℕ)) (x : PartView × List ℕ) → Begins (SpellsPage v.0) cs v.1 → mark_at v.1 ≡ o → item_from v o ≡ Some x → Begins (SpellsItem x.0) cs x.1
@@ -123,9 +123,9 @@ item_from_sound cs v (Some end) x page mark h =
     let last = page_sound end b.0 b.1 in
     let m = mark_sound v.1 end mark in
     subst (λ (y : PartView × List ℕ). Begins (SpellsItem y.0) cs y.1) (some_is (range v.0 b.0.0, b.0.1) x b.2) (record {
-      text = page.text ++ (m.before ++ (m.c ∷ (m.behind ++ last.text)));
+      text = page.text ++ (m.before ++ (m.c ∷ (m.after ++ last.text)));
       whole = joined (SpellsPage v.0) (SpellsPage b.0.0) (λ c. is_range_mark c ≡ true) cs v.1 end b.0.1 page m last;
-      has = record { first = page.text; before = m.before; mark = m.c; behind = m.behind; last = last.text; whole = refl; is_mark = m.is; has_first = page.has; blank_before = m.blank_before; blank_behind = m.blank_behind; has_last = last.has };
+      has = record { first = page.text; before = m.before; mark = m.c; after = m.after; last = last.text; whole = refl; is_mark = m.is; has_first = page.has; blank_before = m.blank_before; blank_after = m.blank_after; has_last = last.has };
     })
 
 pub item_sound : (cs : List ℕ) (x : PartView × List ℕ) → item_at cs ≡ Some x → Begins (SpellsItem x.0) cs x.1
@@ -139,9 +139,9 @@ item_sound cs x h =
 more_sound : (cs a b rest : List ℕ) (p s : PartView) (more : Parts) → Begins (SpellsItem p) cs a → HasCharacter (SpellsSeparator s) a b → Begins (SpellsParts more) b rest → Begins (SpellsParts (p ∷ s ∷ more)) cs rest
 more_sound cs a b rest p s [] item sep others = absurd others.has
 more_sound cs a b rest p s (q ∷ more) item sep others = record {
-  text = item.text ++ (sep.before ++ (sep.c ∷ (sep.behind ++ others.text)));
+  text = item.text ++ (sep.before ++ (sep.c ∷ (sep.after ++ others.text)));
   whole = joined (SpellsItem p) (SpellsParts (q ∷ more)) (SpellsSeparator s) cs a b rest item sep others;
-  has = (item.text, sep.before, sep.c, sep.behind, others.text, refl, item.has, sep.blank_before, sep.is, sep.blank_behind, others.has);
+  has = (item.text, sep.before, sep.c, sep.after, others.text, refl, item.has, sep.blank_before, sep.is, sep.blank_after, others.has);
 }
 
 pub parts_sound : (k : ℕ) (cs : List ℕ) (x : Parts × List ℕ) → parts_at k cs ≡ Some x → Begins (SpellsParts x.0) cs x.1

@@ -60,8 +60,8 @@ some_delimiter : (o : Option NumericDelimiter) → IsSome o → (d : NumericDeli
 some_delimiter None h = cc
 some_delimiter (Some d) h = (d, refl)
 
-regroup : (digits before behind rest : List ℕ) (c : ℕ) → (digits ++ (before ++ (c ∷ behind))) ++ rest ≡ digits ++ (before ++ (c ∷ (behind ++ rest)))
-regroup digits before behind rest c = append_assoc digits (before ++ (c ∷ behind)) rest ∙ ap (λ (x : List ℕ). digits ++ x) (append_assoc before (c ∷ behind) rest)
+regroup : (digits before after rest : List ℕ) (c : ℕ) → (digits ++ (before ++ (c ∷ after))) ++ rest ≡ digits ++ (before ++ (c ∷ (after ++ rest)))
+regroup digits before after rest c = append_assoc digits (before ++ (c ∷ after)) rest ∙ ap (λ (x : List ℕ). digits ++ x) (append_assoc before (c ∷ after) rest)
 
 pub integers_spelled : (xs : Numbers) → AreWritableIntegers xs → SpellsIntegers xs (numbers_text signed_decimal xs)
 integers_spelled [] w = absurd w

@@ -54,10 +54,10 @@ delimiter_of_is c d h =
 
 pub record HasDelimiter (cs : List ℕ) (d : NumericDelimiter) (rest : List ℕ) : Type 0 where
   pub before : List ℕ
-  pub behind : List ℕ
-  pub whole : cs ≡ before ++ (delimiter_char d ∷ (behind ++ rest))
+  pub after : List ℕ
+  pub whole : cs ≡ before ++ (delimiter_char d ∷ (after ++ rest))
   pub blank_before : IsBlank before
-  pub blank_behind : IsBlank behind
+  pub blank_after : IsBlank after
 
 delimiter_first_sound : (cs : List ℕ) (x : NumericDelimiter × List ℕ) → delimiter_first cs ≡ Some x → cs ≡ delimiter_char x.0 ∷ (longest_prefix is_whitespace (drop 1 cs) ++ x.1)
 delimiter_first_sound [] x h = absurd cc
@@ -76,10 +76,10 @@ delimiter_sound cs x h =
     let rest = after_longest_prefix is_whitespace cs in
     record {
       before = longest_prefix is_whitespace cs;
-      behind = longest_prefix is_whitespace (drop 1 rest);
+      after = longest_prefix is_whitespace (drop 1 rest);
       whole = front_after is_whitespace cs ∙ ap (λ (r : List ℕ). longest_prefix is_whitespace cs ++ r) (delimiter_first_sound rest x h);
       blank_before = Only-front is_whitespace cs;
-      blank_behind = Only-front is_whitespace (drop 1 rest);
+      blank_after = Only-front is_whitespace (drop 1 rest);
     }
 
 -- ---- several numbers
@@ -94,14 +94,14 @@ pub record HasNumbers (cs : List ℕ) (k : ℕ) (numbers : Numbers) (rest : List
 more_sound : (cs : List ℕ) (n : ℤ) (digits a : List ℕ) (d : NumericDelimiter) (b : List ℕ) (k : ℕ) (more : Numbers) (r : List ℕ) → SpellsInteger n digits → cs ≡ digits ++ a → HasDelimiter a d b → HasNumbers b k more r → HasNumbers cs (suc k) ((n, Some d) ∷ more) r
 more_sound cs n digits a d b k [] r hn ha hd hm = absurd (omega (arith, hm.count))
 more_sound cs n digits a d b k (y ∷ more) r hn ha hd hm =
-    let tail = delimiter_char d ∷ (hd.behind ++ hm.text) in
-    let grouped : delimiter_char d ∷ (hd.behind ++ b) ≡ tail ++ r = ap (λ (x : List ℕ). delimiter_char d ∷ x) (ap (λ (x : List ℕ). hd.behind ++ x) hm.whole ∙ sym (append_assoc hd.behind hm.text r)) in
+    let tail = delimiter_char d ∷ (hd.after ++ hm.text) in
+    let grouped : delimiter_char d ∷ (hd.after ++ b) ≡ tail ++ r = ap (λ (x : List ℕ). delimiter_char d ∷ x) (ap (λ (x : List ℕ). hd.after ++ x) hm.whole ∙ sym (append_assoc hd.after hm.text r)) in
     let all : cs ≡ (digits ++ (hd.before ++ tail)) ++ r =
     ha ∙ ap (λ (x : List ℕ). digits ++ x) (hd.whole ∙ ap (λ (x : List ℕ). hd.before ++ x) grouped ∙ sym (append_assoc hd.before tail r)) ∙ sym (append_assoc digits (hd.before ++ tail) r) in
     record {
       text = digits ++ (hd.before ++ tail);
       whole = all;
-      spelled = (d, digits, hd.before, hd.behind, hm.text, refl, refl, hn, hd.blank_before, hd.blank_behind, hm.spelled);
+      spelled = (d, digits, hd.before, hd.after, hm.text, refl, refl, hn, hd.blank_before, hd.blank_after, hm.spelled);
       count = omega (arith, hm.count);
     }
 

@@ -20,7 +20,7 @@ some_is_some o d h = subst (λ (x : Option NumericDelimiter). IsSome x) (sym h) 
 integers_writable : (xs : Numbers) (cs : List ℕ) → SpellsIntegers xs cs → AreWritableIntegers xs
 integers_writable [] cs s = absurd s
 integers_writable (x ∷ []) cs s = (integer_writable x.0 cs s.1, s.0)
-integers_writable (x ∷ y ∷ more) cs (d, digits, before, behind, rest, has, whole, spelled, blank_before, blank_behind, others) =
+integers_writable (x ∷ y ∷ more) cs (d, digits, before, after, rest, has, whole, spelled, blank_before, blank_after, others) =
     (integer_writable x.0 digits spelled, some_is_some x.1 d has, integers_writable (y ∷ more) rest others)
 
 value_writable : (v : ValueView) (cs : List ℕ) → SpellsValue v cs → IsWritableValue v

@@ -47,15 +47,15 @@ abbrev pub ends_in_white_space : List ℕ → Bool
 ends_in_white_space text = nat_lt (length (trim_end text)) (length text)
 
 -- the space after a word; none if the given text follows the word and ends in white space
-abbrev pub space_behind : List ℕ → Option (List ℕ) → List ℕ
-space_behind text None = codes " "
-space_behind text (Some letter) = if ends_in_white_space text then [] else codes " "
+abbrev pub space_after : List ℕ → Option (List ℕ) → List ℕ
+space_after text None = codes " "
+space_after text (Some letter) = if ends_in_white_space text then [] else codes " "
 
 -- the words of a given name as they are written, with the spaces between them
 abbrev pub lettered_words : List ℕ → List (List ℕ) → List ℕ
 lettered_words text [] = []
 lettered_words text (w ∷ []) = last_letter_or_word text (single_letter w) w
-lettered_words text (w ∷ v ∷ ws) = letter_or_word text (single_letter w) w ++ (space_behind text (single_letter w) ++ lettered_words text (v ∷ ws))
+lettered_words text (w ∷ v ∷ ws) = letter_or_word text (single_letter w) w ++ (space_after text (single_letter w) ++ lettered_words text (v ∷ ws))
 
 abbrev pub optional_names : List ℕ → Option (List ℕ) → List ℕ
 optional_names text None = []

@@ -98,13 +98,13 @@ pub record SpellsRange (v w : NumericView) (cs : List ℕ) : Type 0 where
   pub first : List ℕ
   pub before : List ℕ
   pub mark : ℕ
-  pub behind : List ℕ
+  pub after : List ℕ
   pub last : List ℕ
-  pub whole : cs ≡ first ++ (before ++ (mark ∷ (behind ++ last)))
+  pub whole : cs ≡ first ++ (before ++ (mark ∷ (after ++ last)))
   pub is_mark : is_range_mark mark ≡ true
   pub has_first : SpellsPage v first
   pub blank_before : IsBlank before
-  pub blank_behind : IsBlank behind
+  pub blank_after : IsBlank after
   pub has_last : SpellsPage w last
 
 -- an item is a page or a range
@@ -128,9 +128,9 @@ abbrev pub SpellsParts : List PartView → List ℕ → Type 0
 SpellsParts [] cs = ⊥
 SpellsParts (p ∷ []) cs = SpellsItem p cs
 SpellsParts (p ∷ s ∷ []) cs = ⊥
-SpellsParts (p ∷ s ∷ q ∷ more) cs = (item : List ℕ) × (before : List ℕ) × (c : ℕ) × (behind : List ℕ) × (rest : List ℕ)
-    × (cs ≡ item ++ (before ++ (c ∷ (behind ++ rest))))
-    × SpellsItem p item × IsBlank before × SpellsSeparator s c × IsBlank behind × SpellsParts (q ∷ more) rest
+SpellsParts (p ∷ s ∷ q ∷ more) cs = (item : List ℕ) × (before : List ℕ) × (c : ℕ) × (after : List ℕ) × (rest : List ℕ)
+    × (cs ≡ item ++ (before ++ (c ∷ (after ++ rest))))
+    × SpellsItem p item × IsBlank before × SpellsSeparator s c × IsBlank after × SpellsParts (q ∷ more) rest
 
 -- the characters spell the pages: optional white space, items and separators, optional white space
 pub record SpellsPages (parts : List PartView) (cs : List ℕ) : Type 0 where

@@ -24,7 +24,7 @@ use std::borrow::Cow;
 use std::collections::BTreeSet;
 
 /// The number, owned.
-fn own_number(
+fn owned_number(
     alloc: Global,
     found: Option<MaybeTyped<Cow<'_, Numeric>>>,
 ) -> Result<Option<MaybeTyped<Numeric>>, Memory>
@@ -43,7 +43,7 @@ fn own_number(
 }
 
 /// The text, owned.
-fn own_text(
+fn owned_text(
     alloc: Global,
     found: Option<Cow<'_, ChunkedString>>,
 ) -> Result<Option<ChunkedString>, Memory>
@@ -61,7 +61,7 @@ fn own_text(
 }
 
 /// The person, owned.
-fn own_person(alloc: Global, person: Cow<'_, Person>) -> Result<Person, Memory>
+fn owned_person(alloc: Global, person: Cow<'_, Person>) -> Result<Person, Memory>
     ensures { IfOk result (λ own. person_view own ≡ cow_view person_view person.entry) }
 {
     match person {
@@ -77,16 +77,16 @@ fn owned_persons(alloc: Global, persons: Vec<Cow<'_, Person>>) -> Result<Vec<Per
 {
     let mut own = Vec::with_capacity(alloc, persons.len())?;
     for person in persons {
-        let person = own_person(alloc, person)?;
+        let person = owned_person(alloc, person)?;
         own.push(person)?;
     }
     Ok(own)
 }
 
 /// The persons, or `None` if there are none.
-fn some_persons(persons: Vec<Person>) -> Option<Vec<Person>>
+fn unless_empty(persons: Vec<Person>) -> Option<Vec<Person>>
     ensures { option_map (λ persons. map person_view persons.items) result
-        ≡ spec.some_persons (map person_view persons.items) }
+        ≡ spec.unless_empty (map person_view persons.items) }
 {
     if persons.is_empty() {
         None
@@ -122,7 +122,7 @@ pub(super) fn numbers<T: EntryLike>(
     let mut kept = Vec::new(alloc);
     for variable in variables {
         let found = entry.resolve_number_variable(alloc, *variable)?;
-        let own = own_number(alloc, found)?;
+        let own = owned_number(alloc, found)?;
         keep(&mut kept, *variable, own)?;
     }
     Ok(kept)
@@ -158,7 +158,7 @@ pub(super) fn texts<T: EntryLike>(
     let mut kept = Vec::new(alloc);
     for variable in variables {
         let found = entry.resolve_standard_variable(alloc, form, *variable)?;
-        let own = own_text(alloc, found)?;
+        let own = owned_text(alloc, found)?;
         keep(&mut kept, *variable, own)?;
     }
     Ok(kept)
@@ -172,14 +172,14 @@ pub(super) fn names<T: EntryLike>(
 ) -> Result<Vec<(NameVariable, Vec<Person>)>, Memory>
     ensures { IfOk result (λ kept.
         map (spec.keyed (λ persons. map person_view persons.items)) kept.items
-        ≡ spec.kept_answers (λ v. spec.some_persons ((T.answers entry.now).names v))
+        ≡ spec.kept_answers (λ v. spec.unless_empty ((T.answers entry.now).names v))
         variables.now.keys) }
 {
     let mut kept = Vec::new(alloc);
     for variable in variables {
         let found = entry.resolve_name_variable(alloc, *variable)?;
         let own = owned_persons(alloc, found)?;
-        keep(&mut kept, *variable, some_persons(own))?;
+        keep(&mut kept, *variable, unless_empty(own))?;
     }
     Ok(kept)
 }
@@ -196,13 +196,13 @@ pub(super) fn dates<T: EntryLike>(
     let mut kept = Vec::new(alloc);
     for variable in variables {
         let found = entry.resolve_date_variable(alloc, *variable)?;
-        keep(&mut kept, *variable, own_date(found))?;
+        keep(&mut kept, *variable, owned_date(found))?;
     }
     Ok(kept)
 }
 
 /// The date, owned.
-fn own_date(found: Option<Cow<'_, Date>>) -> Option<Date>
+fn owned_date(found: Option<Cow<'_, Date>>) -> Option<Date>
     ensures { option_map date_view result ≡ option_map (cow_view date_view) found.entry }
 {
     match found {

@@ -33,9 +33,9 @@ fn the_variables_of_a_set_are_in_order(rt: HostRuntime) -> Result<(), Fail> {
     for (variable, wanted) in ordered.iter().zip(&ENDS) {
         assert_same(&rt, variable, wanted);
         assert_same(&rt, &VariableSet::of(&ordered).contains(*variable), &true);
-        assert_same(&rt, &VariableSet::all().contains(*variable), &true);
+        assert_same(&rt, &VariableSet::full().contains(*variable), &true);
     }
-    let all = VariableSet::all().to_ordered(rt.alloc())?;
+    let all = VariableSet::full().to_ordered(rt.alloc())?;
     assert_same(&rt, &all.len(), &98);
     Ok(())
 }

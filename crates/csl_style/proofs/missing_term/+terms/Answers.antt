@@ -9,7 +9,7 @@ use Rattle.csl_style.proofs.YearSuffixes.{names_sized, children_sized, choose_si
 use Rattle.csl_style.proofs.missing_term.+terms.Goals as goal
 use Rattle.csl_style.specs.Expanded.{macro_env}
 use Rattle.csl_style.specs.FoundTerms.{Finds}
-use Rattle.csl_style.specs.MissingTerm.{asked_in_node, asked_in_nodes, asked_in_branches, asked_in_child, asked_in_names, asked_in_substitutes, inside_names}
+use Rattle.csl_style.specs.MissingTerm.{asked_in_node, asked_in_nodes, asked_in_branches, asked_in_child, asked_in_names, asked_in_substitutes, in_substitutes}
 
 pub visit_all-loop-element-preserved : goal.visit_all-loop-element-preserved
 visit_all-loop-element-preserved t c =
@@ -33,7 +33,7 @@ visit_substitute-loop-element-preserved t c =
     let a = c.args.around in
     let original = parts_node c.args.original in
     record {
-      told = λ end f. c.loop-element.invariant.told end (next_found ls (λ xs. asked_in_nodes ls a (expand_substitute_nodes e original (view_nodes xs))) (λ x. asked_in_node ls a (as_substitute_child original (view_node x) (expand e (view_node x)))) (λ x xs. refl) c.args.elements.now c.loop-element.element-index c.element-item.result c.element-item.result c.loop-element.found c.visit_place.new.found end c.loop-element-test.true c.element-item.is c.visit_place.ensures f);
+      told = λ end f. c.loop-element.invariant.told end (next_found ls (λ xs. asked_in_nodes ls a (expand_substitute_nodes e original (view_nodes xs))) (λ x. asked_in_node ls a (as_substitute_child original (view_node x) (expand e (view_node x)))) (λ x xs. refl) c.args.elements.now c.loop-element.element-index c.element-item.result c.element-item.result c.loop-element.found c.visit_substitute_child.new.found end c.loop-element-test.true c.element-item.is c.visit_substitute_child.ensures f);
       inside = grind (arith, common_steps);
     }
 
@@ -95,10 +95,10 @@ visit_names-loop-child-init t c =
     let sized = names_sized e names in
     rw c.deref-child-items.ensures.value record {
       told = λ end f.
-          let inside = subst (λ i. Finds ls (asked_in_substitutes ls i (expand_substitutes e original (names_substitutes names))) before end) c.inside_names-inside.ensures f in
-          let whole = finds_both ls (asked_in_names a.writes_and original) (asked_in_substitutes ls (inside_names original a) (expand_substitutes e original (names_substitutes names))) start before end c.ask_names.ensures inside in
+          let inside = subst (λ i. Finds ls (asked_in_substitutes ls i (expand_substitutes e original (names_substitutes names))) before end) c.in_substitutes-inside.ensures f in
+          let whole = finds_both ls (asked_in_names a.and_is_a_word original) (asked_in_substitutes ls (in_substitutes original a) (expand_substitutes e original (names_substitutes names))) start before end c.ask_names.ensures inside in
           subst (λ ts. Finds ls ts start end) (sym (names_asked ls a e names))
-          (subst (λ n. Finds ls (asked_in_names a.writes_and n ++ asked_in_substitutes ls (inside_names n a) (expand_substitutes e n (names_substitutes names))) start end) c.parts-parts.ensures.value whole);
+          (subst (λ n. Finds ls (asked_in_names a.and_is_a_word n ++ asked_in_substitutes ls (in_substitutes n a) (expand_substitutes e n (names_substitutes names))) start end) c.parts-parts.ensures.value whole);
       inside = omega arith;
     }
 
@@ -107,7 +107,7 @@ visit_names-loop-child-preserved t c =
     let ls = c.args.style.now.locales in
     let e = macro_env c.args.style.now in
     let original = parts_node c.parts-parts.result in
-    let a = c.inside_names-inside.result in
+    let a = c.in_substitutes-inside.result in
     record {
       told = λ end f. c.loop-child.invariant.told end (next_found ls (λ cs. asked_in_substitutes ls a (expand_substitutes e original (substitutes (map view_child cs)))) (λ x. asked_in_child ls e original a (view_child x)) (λ x xs. child_first ls e original a (view_child x) (map view_child xs)) c.deref-child-items.result.now c.loop-child.child-index c.child-item.result c.child-item.result c.loop-child.found c.visit_child.new.found end c.loop-child-test.true c.child-item.is c.visit_child.ensures f);
       inside = grind (arith, common_steps, children_sized);
@@ -116,4 +116,4 @@ visit_names-loop-child-preserved t c =
 pub visit_names-returns : goal.visit_names-returns
 visit_names-returns t c =
     let ls = c.args.style.now.locales in
-    c.loop-child.invariant.told _ (last_found ls (λ cs. asked_in_substitutes ls c.inside_names-inside.result (expand_substitutes (macro_env c.args.style.now) (parts_node c.parts-parts.result) (substitutes (map view_child cs)))) c.deref-child-items.result.now c.loop-child.child-index c.loop-child.found c.loop-child.found c.loop-child-test.false (finds_none ls c.loop-child.found))
+    c.loop-child.invariant.told _ (last_found ls (λ cs. asked_in_substitutes ls c.in_substitutes-inside.result (expand_substitutes (macro_env c.args.style.now) (parts_node c.parts-parts.result) (substitutes (map view_child cs)))) c.deref-child-items.result.now c.loop-child.child-index c.loop-child.found c.loop-child.found c.loop-child-test.false (finds_none ls c.loop-child.found))

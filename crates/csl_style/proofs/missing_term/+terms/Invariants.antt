@@ -28,8 +28,8 @@ decreases-visit_child l = 3 * child_size (macro_env l.style.now) (view_child l.c
 abbrev pub decreases-visit_substitute : goal.decreases-visit_substitute
 decreases-visit_substitute l = 3 * sizes (expand_nodes (macro_env l.style.now) (view_nodes l.elements.now))
 
-abbrev pub decreases-visit_place : goal.decreases-visit_place
-decreases-visit_place l = 3 * size (expand (macro_env l.style.now) (view_node l.element.now)) + 2
+abbrev pub decreases-visit_substitute_child : goal.decreases-visit_substitute_child
+decreases-visit_substitute_child l = 3 * size (expand (macro_env l.style.now) (view_node l.element.now)) + 2
 
 abbrev pub decreases-visit_choose : goal.decreases-visit_choose
 decreases-visit_choose l = 3 * size (expand (macro_env l.style.now) (view_choose l.choose.now))

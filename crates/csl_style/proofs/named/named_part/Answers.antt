@@ -3,7 +3,7 @@ use Rattle.csl_elements.specs.NamedSet.{named_set}
 use Rattle.csl_elements.specs.View.{definitions, view_node, view_nodes}
 use Rattle.csl_elements.specs.declared.element.CslMacro.{CslMacro}
 use Rattle.csl_elements.specs.declared.element.LayoutRenderingElement.{LayoutRenderingElement}
-use Rattle.csl_style.specs.AllNodes.{all_nodes, nodes_left}
+use Rattle.csl_style.specs.AllNodes.{all_nodes, remaining_nodes}
 use Rattle.csl_style.proofs.Called.{length-definitions}
 use Rattle.csl_style.proofs.NamedWalks.{start_at, passed_at, entered_at, finished_at, entered_falls}
 use Rattle.csl_style.proofs.named.named_part.Goals as goal
@@ -15,13 +15,13 @@ loop-left-init c =
     let all = ap (λ (xs : List CslMacro). replicate (length xs) false) c.macros.ensures in
     let seen = made ∙ all ∙ ap (λ n. replicate n false) (sym (length-definitions ms)) in
     let left = c.in_ok-left.ensures ∙ ap (λ (xs : List LayoutRenderingElement). all_nodes (view_nodes xs)) c.deref.ensures.value in
-    start_at c.args.part (definitions ms) (view_nodes c.args.layout.now.elements.items) (named_set c.empty_named-named.result) c.in_ok-seen.seen.items (nodes_left c.in_ok-left.left.lists.items) c.empty_named-named.ensures seen left
+    start_at c.args.part (definitions ms) (view_nodes c.args.layout.now.elements.items) (named_set c.empty_named-named.result) c.in_ok-seen.seen.items (remaining_nodes c.in_ok-left.left.lists.items) c.empty_named-named.ensures seen left
 
 pub loop-left-smaller-in-Continue-branch-6 : goal.loop-left-smaller-in-Continue-branch-6
 loop-left-smaller-in-Continue-branch-6 c =
-    let before = nodes_left c.loop-left.left.lists.items in
-    let rest = nodes_left c.next.new.self.lists.items in
-    let more = nodes_left c.push.new.self.lists.items in
+    let before = remaining_nodes c.loop-left.left.lists.items in
+    let rest = remaining_nodes c.next.new.self.lists.items in
+    let more = remaining_nodes c.push.new.self.lists.items in
     let node = view_node c.in-Some.node.now in
     let body = view_nodes c.in-Some-unmarked_macro.found.now.children.items in
     let taken : before ≡ node ∷ rest = search rules in
@@ -30,9 +30,9 @@ loop-left-smaller-in-Continue-branch-6 c =
 
 pub loop-left-preserved-in-Continue-branch-6 : goal.loop-left-preserved-in-Continue-branch-6
 loop-left-preserved-in-Continue-branch-6 c =
-    let before = nodes_left c.loop-left.left.lists.items in
-    let rest = nodes_left c.next.new.self.lists.items in
-    let more = nodes_left c.push.new.self.lists.items in
+    let before = remaining_nodes c.loop-left.left.lists.items in
+    let rest = remaining_nodes c.next.new.self.lists.items in
+    let more = remaining_nodes c.push.new.self.lists.items in
     let node = view_node c.in-Some.node.now in
     let body = view_nodes c.in-Some-unmarked_macro.found.now.children.items in
     let taken : before ≡ node ∷ rest = search rules in
@@ -42,8 +42,8 @@ loop-left-preserved-in-Continue-branch-6 c =
 
 pub loop-left-preserved : goal.loop-left-preserved
 loop-left-preserved c =
-    let before = nodes_left c.loop-left.left.lists.items in
-    let rest = nodes_left c.next.new.self.lists.items in
+    let before = remaining_nodes c.loop-left.left.lists.items in
+    let rest = remaining_nodes c.next.new.self.lists.items in
     let node = view_node c.in-Some.node.now in
     let taken : before ≡ node ∷ rest = search rules in
     let none : c.unmarked_macro.result ≡ None = search rules in
@@ -53,4 +53,4 @@ loop-left-preserved c =
 pub returns : goal.returns
 returns c =
     let none : c.in_ok-node.field-0 ≡ None = search rules in
-    finished_at c.args.part (definitions c.args.style.now.macros) (view_nodes c.args.layout.now.elements.items) (named_set c.loop-left.named) c.loop-left.seen.items (nodes_left c.loop-left.left.lists.items) c.loop-left.invariant (c.in_ok-node.ensures.end none)
+    finished_at c.args.part (definitions c.args.style.now.macros) (view_nodes c.args.layout.now.elements.items) (named_set c.loop-left.named) c.loop-left.seen.items (remaining_nodes c.loop-left.left.lists.items) c.loop-left.invariant (c.in_ok-node.ensures.end none)

@@ -49,24 +49,24 @@ use Rattle.csl_tree.specs.contracts.elem.ElemChild as child
 use Rattle.csl_tree.specs.contracts.places.Target as target
 use Rattle.csl_tree.specs.declared.places.Target.{Target}
 use Rattle.csl_tree.specs.Places.{children_of, with_children, child_at, put_child, items_row}
-use Rattle.csl_tree.specs.Walks.{path_towards, goes_on, index_towards, items_towards, put_items_towards}
+use Rattle.csl_tree.specs.Walks.{path_towards, has_next, index_towards, items_towards, put_items_towards}
 use Rattle.csl_tree.proofs.Walks.{made, has_children, reached_down, reached_here, put_items_here, put_items_further, items_with, shorter}
 use Rattle.csl_tree.proofs.places.Target.TheLaws.{lowers, the_row_laws, the_row_plain}
 use Rattle.csl_tree.specs.contracts.elem.ElemChildren.items_mut_towards as f
 use Rattle.csl_tree.specs.contracts.elem.ElemChildren.items_mut_towards.Key.{name as #self}
-use Rattle.csl_tree.specs.contracts.elem.ElemChildren.goes_on as goes
+use Rattle.csl_tree.specs.contracts.elem.ElemChildren.has_next as goes
 use Rattle.csl_tree.specs.contracts.elem.ElemChildren.child_mut_towards as next
 use Rattle.csl_tree.specs.contracts.elem.ElemChild.children_mut as inside
 use Rattle.csl_tree.specs.contracts.elem.ElemChildren.items_mut as items
 use Rattle.csl_tree.specs.contracts.elem.ElemChildren.items_mut.Key.{name as #items}
 use Rattle.csl_tree.proofs.elem.ElemChildren.items_mut.Met.{met as items_met}
-use Rattle.csl_tree.proofs.elem.ElemChildren.goes_on.Met.{met as goes_met}
+use Rattle.csl_tree.proofs.elem.ElemChildren.has_next.Met.{met as goes_met}
 use Rattle.csl_tree.proofs.elem.ElemChildren.child_mut_towards.Met.{met as child_met}
 use Rattle.csl_tree.proofs.elem.ElemChild.children_mut.Met.{met as inside_met}
 use Rattle.csl_tree.proofs.elem.ElemChildren.+towards.{statement, functions}
 use Rattle.csl_tree.proofs.elem.ElemChildren.+towards.Code as code
 use Rattle.csl_tree.proofs.elem.ElemChildren.+towards.Code.+items_mut_towards as body
-use Rattle.csl_tree.specs.contracts.elem.ElemChildren.goes_on.Key.{name as #goes}
+use Rattle.csl_tree.specs.contracts.elem.ElemChildren.has_next.Key.{name as #goes}
 use Rattle.csl_tree.specs.contracts.elem.ElemChildren.child_mut_towards.Key.{name as #next}
 use Rattle.csl_tree.specs.contracts.elem.ElemChild.children_mut.Key.{name as #inside}
 
@@ -173,7 +173,7 @@ module _ {M : Type 1} {𝓤 : Ura M} (𝓛 : Logic 𝓤) (mem : Memory → SProp
         nothing ! $ move ! (1 ∷ 0 ∷ []) $ use2 𝓛 (raw (GoesOn.pre z)) (id⊢ 𝓤 _) $
         calls_at ! fm GoesOn goes_known z (and_then ! (get ! refl) (and_then ! (get ! refl) (no_more !))) (λ v.
         use1 𝓛 (later (some (λ (u : Bool). ((‵ (flft (α ∷ []) full_share) ⊛ ‵ ftrue) ⊛ ‵ (Boolean.own_val u (v ∷ []))) ⊛
-        some (λ (ws : ElemChildren × (Unit {0} × Unit {0})). ‵ (lasts goes.ended z.0.0 z.0.3 ws) ⊛ (raw (fact 𝓤 (u ≡ goes_on to h)) ⊛ raw (fact 𝓤 (ws.0 ≡ h))))))) (id⊢ 𝓤 _) $
+        some (λ (ws : ElemChildren × (Unit {0} × Unit {0})). ‵ (lasts goes.ended z.0.0 z.0.3 ws) ⊛ (raw (fact 𝓤 (u ≡ has_next to h)) ⊛ raw (fact 𝓤 (ws.0 ≡ h))))))) (id⊢ 𝓤 _) $
         await ! tt $ pick ! (λ u. split ! $ split ! $ split ! $ lft_end ! tt $ move ! (2 ∷ []) $ facts ! Boolean (Is Boolean) (shows 𝓛 Boolean) u (v ∷ []) (λ is.
         lands_as ! (ap only is) refl (tt, tt) $
         move ! (2 ∷ []) $ pick ! (λ ws. split ! $ move ! (1 ∷ []) $ split ! $ heard ! _ (λ u_is. heard ! _ (λ same. fsplit ! $ fsplit ! $
@@ -181,10 +181,10 @@ module _ {M : Type 1} {𝓤 : Ura M} (𝓛 : Logic 𝓤) (mem : Memory → SProp
         move ! (3 ∷ 5 ∷ 0 ∷ []) $ use3 𝓛 (later (Ref κ self ⊛ ‵ (flft κ q))) (comes_back 𝓛 R (named 0) κ (α ∷ []) q γ b o δ h h) $ await ! tt $ split ! $
         -- [the reference; its token]
         first ! $ branches ! (get ! refl)
-        (λ t. let e : goes_on to h ≡ true = sym u_is ∙ is_true u t in
+        (λ t. let e : has_next to h ≡ true = sym u_is ∙ is_true u t in
         sets ! (addr ! (through ! refl (stop !))) refl (tt, tt) $
         nothing ! $ owned ! W (Is W) (row_Makes W the_row_plain 𝓛) to (stored to) is_to $ join ! $ move ! (1 ∷ 0 ∷ []) $ join ! $ nothing ! $ move ! (2 ∷ 0 ∷ []) $ join ! $ join ! $
-        use0 𝓛 (raw (fact 𝓤 (IsTrue (goes_on to h)))) (fact_i 𝓤 (IsTrue (goes_on to h)) (emp 𝓤) e) $ move ! (1 ∷ 0 ∷ []) $
+        use0 𝓛 (raw (fact 𝓤 (IsTrue (has_next to h)))) (fact_i 𝓤 (IsTrue (has_next to h)) (emp 𝓤) e) $ move ! (1 ∷ 0 ∷ []) $
         let z₁ : ChildOf.Ghost = (((κ, tt), (q, tt), tt, (self, (to, tt)), (vptr b o ∷ [], (stored to, tt))), tt) in
         use2 𝓛 (raw (ChildOf.pre z₁)) (id⊢ 𝓤 _) $
         calls_at ! fm ChildOf child_known z₁ (and_then ! (get ! refl) (and_then ! (get ! refl) (no_more !))) (λ v₁.
@@ -220,7 +220,7 @@ module _ {M : Type 1} {𝓤 : Ura M} (𝓛 : Logic 𝓤) (mem : Memory → SProp
         (follows_then 𝓛 R R V (λ c. put_child h (index_towards to h) (with_children x.now c)) (put_items_towards to y.now) γ y.ghost_name w.ghost_name) $
         rewrite ! 0 (λ (G : Vec ElemChild Global → ElemChildren). ‵ (follows R V γ w.ghost_name G)) (put_items_further to h y.now x.now x_is y_is e) refl $
         move ! (2 ∷ []) $ split ! $ keep ! (3 ∷ 0 ∷ 2 ∷ []) $ by ! (exits w (w_is ∙ ap (λ c. c.0) (reached_down to h y.now x.now x_is y_is e)))))))))))))))))))
-        (λ t. let e : goes_on to h ≡ false = sym u_is ∙ is_false u t in
+        (λ t. let e : has_next to h ≡ false = sym u_is ∙ is_false u t in
         sets ! (addr ! (through ! refl (stop !))) refl (tt, tt) $
         nothing ! $ move ! (1 ∷ 0 ∷ []) $ join ! $ nothing ! $ move ! (2 ∷ 0 ∷ []) $ join ! $ join ! $ nothing ! $ move ! (1 ∷ 0 ∷ []) $
         let z₁ : Items.Ghost = (((κ, tt), (q, tt), tt, (self, tt), (vptr b o ∷ [], tt)), tt) in
@@ -251,7 +251,7 @@ unfolding tables_of
     (walked_at 𝓛 f.ended stayed (f.clauses 𝓛 mem ret) (WpFn 𝓤 𝓛.H 𝓣.C 𝓣.Λ fn) y (mut_vals, (stored, tt)) (mut_Tells (named 0) y.0.0.0 R, (lowers.val_is, tt))
     (λ are. via 𝓤 (on_entry 𝓛 f.signature y.0.0 y.0.1 y.0.3 (mut_vals y.0.3.0, (stored y.0.3.1.0, tt))) (fst∗ 𝓤 _ (emp 𝓤))
     (walk 𝓛 mem ret y.0.0.0 y.0.1.0 y.0.3.0.ref_ptr.0 y.0.3.0.ref_ptr.1 y.0.3.0.ghost_name y.0.3.0.now y.0.3.1.0 𝓣
-    (goes_met 𝓤 𝓛 𝓜 𝓡 (code.calls-csl_tree::elem::ElemChildren::goes_on 𝓡.env wired))
+    (goes_met 𝓤 𝓛 𝓜 𝓡 (code.calls-csl_tree::elem::ElemChildren::has_next 𝓡.env wired))
     (child_met 𝓤 𝓛 𝓜 𝓡 (code.calls-csl_tree::elem::ElemChildren::child_mut_towards 𝓡.env wired))
     (inside_met 𝓤 𝓛 𝓜 𝓡 (code.calls-csl_tree::elem::ElemChild::children_mut 𝓡.env wired))
     (items_met 𝓤 𝓛 𝓜 𝓡 (code.calls-csl_tree::elem::ElemChildren::items_mut 𝓡.env wired))

@@ -21,10 +21,10 @@ returns-clause-ok c =
       | then-end-self+in_ok-reserve_affixes w ↦ (
           let n = c.len-end.result in
           let r = w.reserve_affixes.ensures.items in
-          let all = spliced xs w.put_text.new.children.items w.put_text-then-end-self.new.children.items n start around b a (omega (arith, c.len-end.ensures, c.self.inside.children.ok.0)) w.if-end-self.true
-          (w.put_text.ensures.before ∙ ap (take n) r) (w.put_text.ensures.from ∙ ap (λ (l : List ElemChild). a ++> content_of (drop n l)) r)
-          w.put_text-then-end-self.ensures.before w.put_text-then-end-self.ensures.from in
-          c.leave.ensures ∙ ap (λ (p : OpenParts). close_part p.inner p) w.self-is ∙ closed_with (open_parts w.put_text-then-end-self.new.children.items start around) old (affixed_content b a old.inner) all is_open ∙ ap close c.self.view_is
+          let all = spliced xs w.insert_text.new.children.items w.insert_text-then-end-self.new.children.items n start around b a (omega (arith, c.len-end.ensures, c.self.inside.children.ok.0)) w.if-end-self.true
+          (w.insert_text.ensures.before ∙ ap (take n) r) (w.insert_text.ensures.from ∙ ap (λ (l : List ElemChild). a ++> content_of (drop n l)) r)
+          w.insert_text-then-end-self.ensures.before w.insert_text-then-end-self.ensures.from in
+          c.leave.ensures ∙ ap (λ (p : OpenParts). close_part p.inner p) w.self-is ∙ closed_with (open_parts w.insert_text-then-end-self.new.children.items start around) old (affixed_content b a old.inner) all is_open ∙ ap close c.self.view_is
           )
       | else-end-self w ↦ (
           let none = none_inner xs start around (omega (arith, c.len-end.ensures, c.self.inside.children.ok.0, w.if-end-self.false)) in

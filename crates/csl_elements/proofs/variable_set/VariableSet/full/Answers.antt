@@ -3,7 +3,7 @@ use Rattle.std.specs.Int.{bit_at}
 use Rattle.std.proofs.lemmas.Nat.Bits.{bit_at_ones}
 use Rattle.csl_elements.specs.VariableSet.{place, has}
 use Rattle.csl_elements.proofs.VariableSets.{place_bound}
-use Rattle.csl_elements.proofs.variable_set.VariableSet.all.Goals as goal
+use Rattle.csl_elements.proofs.variable_set.VariableSet.full.Goals as goal
 
 pub returns : goal.returns
 unfolding has

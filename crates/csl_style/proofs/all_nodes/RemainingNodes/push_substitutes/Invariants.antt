@@ -1,8 +1,8 @@
 use Rattle.std.proofs.Common.{◌≡◌, ◌≤◌, ◌++◌, length}
 use Rattle.csl_elements.specs.declared.element.Names.{out-Names}
-use Rattle.csl_style.specs.AllNodes.{nodes_left}
+use Rattle.csl_style.specs.AllNodes.{remaining_nodes}
 use Rattle.csl_style.proofs.AllNodesLaws.{children_from}
-use Rattle.csl_style.proofs.all_nodes.NodesLeft.push_substitutes.Given as goal
+use Rattle.csl_style.proofs.all_nodes.RemainingNodes.push_substitutes.Given as goal
 
 -- the children from this place on come first
 abbrev pub invariant-loop-i : goal.invariant-loop-i
@@ -10,7 +10,7 @@ invariant-loop-i l =
     let names = out-Names l.names in
     record {
       within : l.i ≤ length names.children.items;
-      left : nodes_left l.self.lists.items ≡ children_from names.children.items l.i ++ nodes_left l.fn.self.lists.items;
+      left : remaining_nodes l.self.lists.items ≡ children_from names.children.items l.i ++ remaining_nodes l.fn.self.lists.items;
     }
 
 abbrev pub decreases-loop-i : goal.decreases-loop-i

@@ -2,7 +2,7 @@ use Rattle.std.proofs.Common.{◌-◌, ◌∙◌, set, refl, ap, arith}
 use Rattle.csl_tree.specs.Flat.{with_tokens}
 use Rattle.csl_tree.proofs.Appended.{on_err, on_true, on_false}
 use Rattle.csl_tree.proofs.Flats.{joined_last, kept_last}
-use Rattle.csl_tree.proofs.flat.FlatTree.join_end.Goals as goal
+use Rattle.csl_tree.proofs.flat.FlatTree.join_to_last.Goals as goal
 
 pub returns-in_err-did-clause-err : goal.returns-in_err-did-clause-err
 returns-in_err-did-clause-err c =

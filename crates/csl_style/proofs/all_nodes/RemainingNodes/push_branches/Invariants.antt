@@ -1,8 +1,8 @@
 use Rattle.std.proofs.Common.{◌≡◌, ◌≤◌, ◌++◌, length}
 use Rattle.csl_elements.specs.declared.element.Choose.{out-Choose}
-use Rattle.csl_style.specs.AllNodes.{nodes_left}
+use Rattle.csl_style.specs.AllNodes.{remaining_nodes}
 use Rattle.csl_style.proofs.AllNodesLaws.{branches_from}
-use Rattle.csl_style.proofs.all_nodes.NodesLeft.push_branches.Given as goal
+use Rattle.csl_style.proofs.all_nodes.RemainingNodes.push_branches.Given as goal
 
 -- the branches from this place on come first
 abbrev pub invariant-loop-i : goal.invariant-loop-i
@@ -10,7 +10,7 @@ invariant-loop-i l =
     let choose = out-Choose l.choose in
     record {
       within : l.i ≤ length choose.else_if.items;
-      left : nodes_left l.self.lists.items ≡ branches_from choose.else_if.items choose.otherwise l.i ++ nodes_left l.fn.self.lists.items;
+      left : remaining_nodes l.self.lists.items ≡ branches_from choose.else_if.items choose.otherwise l.i ++ remaining_nodes l.fn.self.lists.items;
     }
 
 abbrev pub decreases-loop-i : goal.decreases-loop-i
