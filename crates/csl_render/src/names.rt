@@ -1,7 +1,7 @@
 //! Names (CSL 1.0.2, Names; Substitute): the dry run and shown variables of a names node.
 //! Definitions: specs/Names.antt, specs/Tree.antt, specs/Plan.antt.
 
-ghost use Rattle.std.specs.Prelude.{◌≡◌, true, IfOk, option_map};
+ghost use Rattle.std.specs.Prelude.{◌≡◌, true, IfOk, option_map, if◌then◌else◌};
 ghost use Rattle.csl_elements.specs.NamesParts.{names_node, names_substitutes, first_substitute};
 ghost use Rattle.csl_elements.specs.View.{view_nodes, view_names};
 ghost use Rattle.csl_style.specs.Expanded.{expanded};
