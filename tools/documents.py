@@ -67,7 +67,7 @@ class Document:
         for line in [*self.lines, Line(0, "heading", "")]:
             ends = line.kind != "text" or not line.text.strip() or ITEM.match(line.text)
             if ends and paragraph:
-                yield from ((start, it) for it in END.split(plain(paragraph)) if it.strip())
+                yield from ((start, text) for text in END.split(plain(paragraph)) if text.strip())
                 paragraph = ""
             if line.kind == "text" and line.text.strip():
                 start = start if paragraph else line.number
@@ -103,7 +103,7 @@ class Document:
     def quotes(self) -> Iterator[Quote]:
         """The fenced blocks of code that quote no command."""
         yield from (block for block in self.blocks()
-                    if not any(it.text.startswith("$ ") for it in block.lines))
+                    if not any(line.text.startswith("$ ") for line in block.lines))
 
     def rows(self) -> Iterator[tuple[int, list[str], list[str]]]:
         """The rows of its tables, each with the number of its line and the cells of the head."""

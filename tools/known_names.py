@@ -75,5 +75,5 @@ class Names:
     def lacks_clause(self, calls: list[str], clause: str) -> bool:
         """Whether none of these calls has a clause of this name. Of calls that are no functions,
         as types, nothing can be told."""
-        functions = [it for it in (call.split("::")[-1] for call in calls) if it in self.clauses]
-        return bool(functions) and not any(clause in self.clauses[it] for it in functions)
+        functions = [end for end in (call.split("::")[-1] for call in calls) if end in self.clauses]
+        return bool(functions) and not any(clause in self.clauses[name] for name in functions)

@@ -23,7 +23,7 @@ def ends_of_paths() -> set[str]:
     """All that a path of the repository may end with, part by part."""
     ends: set[str] = set()
     for folder, folders, files in os.walk(TOP):
-        folders[:] = [it for it in folders if it not in (".git", "out", "__pycache__")]
+        folders[:] = [child for child in folders if child not in (".git", "out", "__pycache__")]
         at = os.path.relpath(folder, TOP)
         for name in [*folders, *files]:
             path = os.path.normpath(f"{at}/{name}")
@@ -39,7 +39,7 @@ def documents_of_kit() -> set[str]:
     found = [path for pattern in ("*.md", "rattle/*.md", "rattle/*/*.md")
              for path in glob.glob(f"{at}/{pattern}")]
     parts = [os.path.relpath(path, at).split("/") for path in found]
-    return {"/".join(it[start:]) for it in parts for start in range(len(it))}
+    return {"/".join(path[start:]) for path in parts for start in range(len(path))}
 
 
 def is_open(part: str) -> bool:
@@ -54,8 +54,8 @@ def variants_of(path: str) -> list[str]:
     found = re.search(r"\{([^{}]*)\}", path)
     if not found:
         return [path]
-    return [it for part in found[1].split(",")
-            for it in variants_of(path[:found.start()] + part + path[found.end():])]
+    return [variant for part in found[1].split(",")
+            for variant in variants_of(path[:found.start()] + part + path[found.end():])]
 
 
 def lacks(path: str) -> bool:

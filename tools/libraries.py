@@ -20,7 +20,7 @@ rt["Crate"].allowed, rt["Crate"].cuts_libraries = rt["handles_of"](os.getcwd()),
 crates = rt["crates_of"](os.getcwd())
 kept, found = rt["Kept"](crates), set()
 for crate in crates:
-    if all(it.name in found for it in crate.below()) and kept.give(crate, False, kept.key(crate)):
+    if all(dep.name in found for dep in crate.below()) and kept.give(crate, False, kept.key(crate)):
         kept.is_built(crate)
         found.add(crate.name)
         print("library", crate.name, flush=True)
@@ -67,8 +67,8 @@ def libraries_left(below: list[str], top: str = TOP) -> dict[str, str]:
     for name, place in libraries_of_ci(below, top).items():
         made = last_change(place)
         sources = max(last_change(f"{top}/crates/{name}/{part}") for part in PARTS)
-        used = [it for it in uses[name] if it in uses]
-        if sources < made and all(times.get(it, made + 1) <= made for it in used):
+        used = [crate for crate in uses[name] if crate in uses]
+        if sources < made and all(times.get(crate, made + 1) <= made for crate in used):
             times[name], found[name] = made, place
     return found
 

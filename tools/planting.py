@@ -25,7 +25,7 @@ Place = tuple[str, int, int]
 
 def bodies_of(text: str) -> list[tuple[int, int]]:
     """Where the bodies of functions begin and end in a file, braces included."""
-    places = ((it.body(), it.end) for it in functions_of(text))
+    places = ((function.body(), function.end) for function in functions_of(text))
     return [(start, end) for start, end in places if start < end - 1]
 
 
@@ -113,7 +113,7 @@ class Planting:
     def text_with(self, file: str) -> str:
         """The text of a file with all its bodies."""
         text = self.text_of(file)
-        places = sorted((it for it in self.bodies if it[0] == file), key=lambda it: -it[1])
+        places = sorted((key for key in self.bodies if key[0] == file), key=lambda place: -place[1])
         for _, start, end in places:
             others = "".join(f"if chosen_body({number}) {body} else "
                              for number, body in self.bodies[file, start, end])
@@ -160,7 +160,7 @@ def built(crate: str, listed: str, program: str, is_test: bool) -> Built:
     it, its tests or its program for a moment, and leaves the program in a file."""
     name, checkout = os.path.basename(crate), os.path.dirname(os.path.dirname(crate))
     room, names = os.path.dirname(checkout), read(listed).split()
-    entries = {it.label: it for it in all_entries()}
+    entries = {entry.label: entry for entry in all_entries()}
     planting_of(checkout, [entries[name] for name in names]).write()
     try:
         made = compiled(crate, room,

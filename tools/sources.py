@@ -113,8 +113,8 @@ class Item(NamedTuple):
     def clauses(self) -> list[tuple[str, str, str]]:
         """Its clauses: the word each begins with, its name or an empty text, and its text."""
         text = blank(self.file)
-        return [(it[1], it[2] or "", self.file[it.end():end_of(text, it.end())])
-                for it in CLAUSE.finditer(text, self.start, self.body())]
+        return [(head[1], head[2] or "", self.file[head.end():end_of(text, head.end())])
+                for head in CLAUSE.finditer(text, self.start, self.body())]
 
     def members(self) -> list["Item"]:
         """The items inside it, or its fields or variants."""
@@ -146,11 +146,11 @@ def items_in(file: str, around: Item | None = None) -> Iterator[Item]:
         first = at
         if lines[at].startswith(margin) and lines[at][indent:indent + 1] not in ("", " "):
             at = end_of_item(lines, at, margin, is_listed)
-            end = start + sum(len(it) + 1 for it in lines[first:at]) + len(lines[at].rstrip())
+            end = start + sum(len(line) + 1 for line in lines[first:at]) + len(lines[at].rstrip())
             if found := made(file[start + indent:end], around):
                 yield Item(*found, file, start, end, around)
         at += 1
-        start += sum(len(it) + 1 for it in lines[first:at])
+        start += sum(len(line) + 1 for line in lines[first:at])
 
 
 def end_of_item(blanked: list[str], at: int, margin: str, is_listed: bool) -> int:
@@ -159,7 +159,7 @@ def end_of_item(blanked: list[str], at: int, margin: str, is_listed: bool) -> in
     is_attribute = blanked[at].startswith(margin + "#")
     for at in range(at, len(blanked)):
         line = blanked[at].rstrip()
-        depth += sum(line.count(it) for it in "([{") - sum(line.count(it) for it in ")]}")
+        depth += sum(line.count(mark) for mark in "([{") - sum(line.count(mark) for mark in ")]}")
         ends = line.endswith(last) or line.startswith(margin + "}") or is_attribute
         if depth <= 0 and ends:
             break
@@ -183,7 +183,7 @@ def functions_of(file: str) -> list[Item]:
 
 def function_around(file: str, at: int) -> Item | None:
     """The function around a place of a file."""
-    return next((it for it in functions_of(file) if it.start <= at < it.end), None)
+    return next((item for item in functions_of(file) if item.start <= at < item.end), None)
 
 
 class Module(NamedTuple):
@@ -209,7 +209,7 @@ def modules_of(crate: str) -> list[Module]:
     root = f"{TOP}/crates/{crate}/src"
     found = []
     for folder, _, files in sorted(os.walk(root)):
-        for name in sorted(it for it in files if it.endswith(".rt")):
+        for name in sorted(file for file in files if file.endswith(".rt")):
             path = os.path.relpath(f"{folder}/{name}", root)[:-3]
             module = module_at(crate, () if path == "lib" else tuple(path.split("/")))
             found += [module] if module else []
@@ -232,7 +232,7 @@ def used_paths(item: Item) -> list[tuple[list[str], str]]:
     """What a `use` brings: each path, and the name that it has here."""
     text = " ".join(item.text.split()).rstrip(";").split("use ", 1)[1]
     front, brace, listed = text.partition("{")
-    paths = [front + it for it in split_list(listed.rstrip("}"))] if brace else [text]
+    paths = [front + part for part in split_list(listed.rstrip("}"))] if brace else [text]
     found = []
     for path in paths:
         whole, _, name = path.partition(" as ")
@@ -296,7 +296,7 @@ def public_items(crate: str) -> dict[str, list[tuple[Module, Item]]]:
     found: dict[str, list[tuple[Module, Item]]] = {}
     seen: set[tuple[str, int]] = set()
     level = [(crate, root)] if root else []
-    reached = {(it.crate, it.path) for _, it in level}
+    reached = {(first.crate, first.path) for _, first in level}
     while level:
         below: list[tuple[str, Module]] = []
         for path, module in level:
@@ -311,7 +311,7 @@ def public_items(crate: str) -> dict[str, list[tuple[Module, Item]]]:
                 elif item and (at.file, item.start) not in seen:
                     seen.add((at.file, item.start))
                     found.setdefault(path, []).append((at, item))
-        level = sorted(below, key=lambda it: order.index(it[1].crate))
+        level = sorted(below, key=lambda pair: order.index(pair[1].crate))
     return found
 
 

@@ -111,7 +111,8 @@ def reached(modules: dict[str, Module], roots: list[tuple[str, str]]) -> set[tup
 
 def crates_of_specs() -> list[str]:
     """The crates that have definitions, lowest first."""
-    return [it for it in uses_of_crates() if os.path.isfile(f"{TOP}/crates/{it}/specs/Lib.antt")]
+    return [crate for crate in uses_of_crates()
+            if os.path.isfile(f"{TOP}/crates/{crate}/specs/Lib.antt")]
 
 
 def order_in(crate: str) -> list[str]:

@@ -159,7 +159,7 @@ def function_at(name: str, file: str, text: str, at: int) -> tuple[str, str]:
 
 def module_path(file: str) -> list[str]:
     """The path of the module that a source of a crate is."""
-    return [it for it in file.removesuffix(".rt").split("/")[1:] if it not in ("lib", "main")]
+    return [part for part in file.removesuffix(".rt").split("/")[1:] if part not in ("lib", "main")]
 
 
 def goal_at(file: str, line: int) -> str:
@@ -242,7 +242,7 @@ def fault_of_twin(edit: Edit, others: list[Edit]) -> str:
     """Why the twin that an edit names is none, or an empty text. A twin means the same as before,
     and differs from the edit only in values: it has its steps, branches, loops and calls, literals
     aside. So if the prover has a proof of it, it refuses the edit for what this does."""
-    twin = next((it for it in others if it.entry.name == edit.entry.twin), None)
+    twin = next((other for other in others if other.entry.name == edit.entry.twin), None)
     if twin is None or twin.entry.mark != "same":
         return f"no edit {edit.entry.twin} means the same as before"
     made: dict[str, str] = {}

@@ -49,8 +49,8 @@ class Source:
 
     def attributes(self) -> str:
         """The lines of its attributes, without those that only a function in a cycle has."""
-        return "".join(f"{it}\n" for it in self.found.above()
-                       if re.match(r" *#\[(?!cycle|inline)", it))
+        return "".join(f"{line}\n" for line in self.found.above()
+                       if re.match(r" *#\[(?!cycle|inline)", line))
 
     def is_of_trait(self) -> bool:
         """Whether it is a method of a trait."""
@@ -76,7 +76,7 @@ def can_be_copied(edit: Edit) -> bool:
     if not edit.is_code or any(old.startswith("use ") for _, old, _ in edit.pairs):
         return False
     sources = [source for source, _ in sources_of(edit)]
-    return all(not it.is_of_trait() or method_of(it, edit.crate)[0] for it in sources)
+    return all(not source.is_of_trait() or method_of(source, edit.crate)[0] for source in sources)
 
 
 def clauses_of(crate: str, of_trait: str, method: str) -> tuple[str, str]:
@@ -101,7 +101,8 @@ def written_out(clauses: str, block: str) -> str:
         def applied(found: re.Match[str]) -> str:
             """The member of these arguments."""
             values = dict(zip(names.split(), found[0].split()[1:]))
-            return "(" + re.sub(r"(?<![\w.])\w+\b", lambda it: values.get(it[0], it[0]), body) + ")"
+            return "(" + re.sub(r"(?<![\w.])\w+\b", lambda word: values.get(word[0], word[0]),
+                                body) + ")"
 
         arguments = rf"(?: [\w.]+){{{len(names.split())}}}"
         clauses = re.sub(rf"(?<![\w.]){member}{arguments}", applied, clauses)
@@ -111,11 +112,11 @@ def written_out(clauses: str, block: str) -> str:
 def names_lacking(text: str, other: str, clauses: str) -> str:
     """The lines `ghost use` by which a file has all names that clauses of another one use."""
     uses = r"^ghost use (Rattle\.[\w.]+)\.\{([^}]*)\};$"
-    known = {it.strip() for _, names in re.findall(uses, text, re.M) for it in names.split(",")}
+    known = {name.strip() for _, names in re.findall(uses, text, re.M) for name in names.split(",")}
     lines = []
     for path, names in re.findall(uses, other, re.M):
-        words = [it.strip() for it in names.split(",")]
-        lacking = [it for it in words if it not in known and it.strip("◌") in clauses]
+        words = [name.strip() for name in names.split(",")]
+        lacking = [word for word in words if word not in known and word.strip("◌") in clauses]
         lines += [f"ghost use {path}.{{{', '.join(lacking)}}};\n"] if lacking else []
     return "".join(lines)
 
@@ -134,8 +135,8 @@ def method_of(source: Source, crate: str, known: str = "") -> tuple[str, str]:
     if not own or not clauses:
         return "", ""
     parts = (own[2] or "").split(", ")
-    generics = [*(it for it in parts if it.startswith("'")), *filter(None, [block[1]]),
-                *(it for it in parts if it and not it.startswith("'"))]
+    generics = [*(part for part in parts if part.startswith("'")), *filter(None, [block[1]]),
+                *(part for part in parts if part and not part.startswith("'"))]
     given = f"<{', '.join(generics)}>" if generics else ""
     head = f"fn {own[1]}{given}(this: &{own[3] or ''}{own[4] or ''}{block[3]}{own[5]}"
     body = source.text()[own.end():].removesuffix("    }\n")
@@ -233,7 +234,7 @@ class Copies:
         """The texts with all copies, by file."""
         made = {}
         for file, text in self.texts.items():
-            for end, copied in sorted(self.copies[file], key=lambda it: -it[0]):
+            for end, copied in sorted(self.copies[file], key=lambda copy: -copy[0]):
                 text = text[:end] + copied + text[end:]
             at = text.find("ghost use ")
             made[file] = text[:at] + self.lines.get(file, "") + text[at:] if at >= 0 else text
