@@ -15,6 +15,10 @@ use std::alloc::Global;
 pub(crate) struct Quote<'s> {
     open: &'s str,
     close: &'s str,
+    /// The mark in the text before.
+    open_mark: Option<char>,
+    /// The mark in the text after.
+    close_mark: Option<char>,
 }
 
 /// The quotes of a style's language.
@@ -41,17 +45,25 @@ fn quote_text(style: &Style, term: OtherTerm) -> Option<&str> {
     style.term(Term::Other(term), TermForm::Long, false)
 }
 
+impl<'s> Quote<'s> {
+    /// The quote of two terms, if the style has both.
+    fn of(style: &'s Style, before: OtherTerm, after: OtherTerm) -> Option<Quote<'s>> {
+        let open = quote_text(style, before)?;
+        let close = quote_text(style, after)?;
+        Some(Quote {
+            open,
+            close,
+            open_mark: mark_of(open),
+            close_mark: mark_of(close),
+        })
+    }
+}
+
 impl<'s> Quotes<'s> {
     /// The quotes of the style's language, if it has both.
     pub(crate) fn of(style: &'s Style) -> Option<Quotes<'s>> {
-        let outer = Quote {
-            open: quote_text(style, OtherTerm::OpenQuote)?,
-            close: quote_text(style, OtherTerm::CloseQuote)?,
-        };
-        let inner = Quote {
-            open: quote_text(style, OtherTerm::OpenInnerQuote)?,
-            close: quote_text(style, OtherTerm::CloseInnerQuote)?,
-        };
+        let outer = Quote::of(style, OtherTerm::OpenQuote, OtherTerm::CloseQuote)?;
+        let inner = Quote::of(style, OtherTerm::OpenInnerQuote, OtherTerm::CloseInnerQuote)?;
         Some(Quotes { outer, inner })
     }
 
@@ -66,11 +78,11 @@ impl<'s> Quotes<'s> {
     /// The mark that closes a quote that this mark opens, in this language, in English or in
     /// French.
     fn closing(&self, mark: char) -> Option<char> {
-        if mark_of(self.outer.open) == Some(mark) {
-            return mark_of(self.outer.close);
+        if self.outer.open_mark == Some(mark) {
+            return self.outer.close_mark;
         }
-        if mark_of(self.inner.open) == Some(mark) {
-            return mark_of(self.inner.close);
+        if self.inner.open_mark == Some(mark) {
+            return self.inner.close_mark;
         }
         match mark {
             '“' => Some('”'),
