@@ -16,7 +16,7 @@ use Rattle.csl_elements.specs.declared.element.NamesChild.{NamesChild}
 use Rattle.csl_elements.proofs.Rolled.{names_view}
 use Rattle.csl_style.specs.AllNodes.{all_nodes, nodes_inside, nodes_in_branches, nodes_in_substitutes, nodes_in_child, remaining_nodes, called_name, is_suffix_text}
 use Rattle.csl_style.specs.CallGraph.{calls_in, calls_in_all, calls_in_branches, calls_in_substitutes, own_calls}
-use Rattle.csl_style.specs.YearSuffix.{has_year_suffix, any_has_year_suffix, branches_have_year_suffix, macro_has_year_suffix}
+use Rattle.csl_style.specs.YearSuffix.{has_year_suffix, any_has_year_suffix, branches_have_year_suffix}
 use Rattle.csl_style.proofs.YearSuffixes.{nodes_out, behind, choose_out, substitute_has_year_suffix, substitutes_size, insteads_same, insteads_sized}
 
 -- ---- what is left
@@ -125,6 +125,11 @@ module _ (ds : List Definition) where
 
 -- ---- texts of the year suffix
 
+-- whether one is in the nodes that a name stands for
+abbrev pub macro_has_year_suffix : Option ExpandedNodes → Bool
+macro_has_year_suffix None = false
+macro_has_year_suffix (Some fs) = any_has_year_suffix fs
+
 module _ (env : List ℕ → Option ExpandedNodes) where
   abbrev pub called_has : Option (List ℕ) → Bool
   called_has None = false
@@ -217,9 +222,6 @@ module _ (env : List ℕ → Option ExpandedNodes) where
     substitute_cost no_substitutes = omega arith
     substitute_cost (substitute ns ss) = omega (arith, costs_append (all_nodes ns) (nodes_in_substitutes ss), all_cost ns, substitute_cost ss)
 
-  pub some_cost : (n : Node) → 0 < own_cost n
-  some_cost n = omega arith
-
 -- ---- what the sources name
 
 -- for the nodes inside a choice and a names node
@@ -229,6 +231,3 @@ pub ruleset names_laws = (child_left, no_child_left, names_inside, joined)
 
 -- for the next node of a walk
 pub ruleset next_laws = (first_left, empty_left)
-
--- for the search for the year suffix
-pub ruleset year_suffix_laws = (all_has, own_append, costs_append, all_cost, some_cost)

@@ -13,8 +13,7 @@ use Rattle.csl_style.specs.Depth.{node_depth, layout_depth}
 use Rattle.csl_style.specs.Size.{counted, weights, weight, layout_size, rendered_size}
 use Rattle.csl_style.specs.AllWithin.{IsKnownSize, AreKnownSizes, AreNodesWithin, IsLayoutWithin, IsAllWithin, IsOneCall, IsOneVariable, NameMeans}
 use Rattle.csl_style.specs.declared.size.MacroSize.{MacroSize}
-use Rattle.csl_style.proofs.Meanings.{body-none, meaning-unfolds}
-use Rattle.csl_style.proofs.SuffixSearch.{meaning-at}
+use Rattle.csl_style.proofs.Meanings.{body-none, meaning-unfolds, meaning-at}
 use Rattle.csl_style.proofs.PlacesByName.{within-list}
 use Rattle.csl_elements.specs.declared.element.CslMacro.{CslMacro}
 use Rattle.csl_elements.specs.declared.element.Layout.{Layout}

@@ -1,12 +1,14 @@
 -- In an acyclic style, a name stands for the nodes of the first macro of that name.
-use Rattle.std.proofs.Common.{◌≡◌, ℕ, zero, suc, ◌≤◌, List, [], ◌∷◌, length, slice_index, Option, Some, None, option_map, Bool, true, false, if◌then◌else◌, refl, sym, ap, ap₂, ◌∙◌, arith}
+use Rattle.std.proofs.Common.{◌≡◌, ℕ, zero, suc, ◌≤◌, List, [], ◌∷◌, length, slice_index, Option, Some, None, option_map, IfSome, Bool, true, false, if◌then◌else◌, refl, sym, ap, ap₂, ◌∙◌, arith}
 use Rattle.std.proofs.lemmas.Bool.{and_parts}
 use Rattle.std.proofs.lemmas.Bool.Decides.{nat_tests}
 use Rattle.std.specs.Str.{bytes_eq}
 use Rattle.csl_elements.specs.Node.{Node, call, names, choose, group, Nodes, no_nodes, node, Branches, no_branches, otherwise, branch, Substitutes, no_substitutes, substitute, ExpandedNodes, expanded_node, expanded_names, expanded_choose, expanded_group, expanded_otherwise, expanded_branch, expanded_substitute, expand, expand_nodes, expand_branches, expand_substitutes, expand_substitute_nodes, expand_call, as_substitute_child}
 use Rattle.csl_elements.specs.Names.{NamesNode}
 use Rattle.csl_elements.specs.View.{Definition}
+use Rattle.csl_style.specs.CallGraph.{children_at}
 use Rattle.csl_style.specs.Expansion.{macro_index, macro_body, expansion_to_depth, macro_expansion, rank_of, is_below, calls_below, all_below, branches_below, substitutes_below, body_below, AreRanks, IsAcyclic}
+use Rattle.csl_style.proofs.Called.{place-is}
 
 -- two expansions of names that agree on each name below r
 abbrev Agree : (List ℕ → Option ℕ) → ℕ → (e f : List ℕ → Option ExpandedNodes) → Type 0
@@ -94,3 +96,13 @@ pub meaning-of : {A : Type 0} (ds : List Definition) (name : List ℕ) (f : A �
     → option_map (λ m. expand_nodes (macro_expansion ds) (f m)) o ≡ macro_expansion ds name
 meaning-of ds name f None ok e = ap (option_map (expand_nodes (macro_expansion ds))) e ∙ sym (meaning-unfolds ds name ok)
 meaning-of ds name f (Some m) ok e = ap (option_map (expand_nodes (macro_expansion ds))) e ∙ sym (meaning-unfolds ds name ok)
+
+-- ---- by the place of the macro
+
+module _ (ds : List Definition) (name : List ℕ) (ok : IsAcyclic ds) where
+  pub meaning-at : (i : ℕ) → macro_index name ds ≡ Some i → macro_expansion ds name ≡ Some (expand_nodes (macro_expansion ds) (children_at ds i))
+  meaning-at i h = meaning-unfolds ds name ok ∙ ap (option_map (expand_nodes (macro_expansion ds))) (place-is name ds i h).holds
+
+  pub meaning-if : (o : Option ℕ) → macro_index name ds ≡ o → IfSome o (λ i. macro_expansion ds name ≡ Some (expand_nodes (macro_expansion ds) (children_at ds i)))
+  meaning-if None h = tt
+  meaning-if (Some i) h = meaning-at i h

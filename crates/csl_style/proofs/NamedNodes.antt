@@ -21,7 +21,8 @@ use Rattle.csl_elements.proofs.Rolled.{names_view}
 use Rattle.csl_elements.proofs.Sets.{join_assoc, join_none, none_join, join_same, join_turn}
 use Rattle.csl_style.specs.AllNodes.{all_nodes, nodes_inside, nodes_in_branches, nodes_in_substitutes, called_name}
 use Rattle.csl_style.specs.Named.{named_in_node, named_in_nodes, named_in_branches, named_in_substitutes, named_in_names, named_in_target, named_in_tests, the_number_or_page, date_if, each_of, each_if, the_name, the_variable, the_date, the_kind}
-use Rattle.csl_style.specs.NamedWalk.{Adds, named_itself, tested_itself, told_itself, part_itself, part_in, named_in_all_tests, named_in_tests_of, called_nodes}
+use Rattle.csl_style.specs.NamedWalk.{Adds, named_itself, tested_itself, told_itself, part_itself, part_in, named_in_all_tests, named_in_tests_of}
+use Rattle.csl_style.specs.Reached.{called_nodes}
 use Rattle.csl_style.specs.NamesOf.{has_variable, is_names_of, any_is_names_of, substitute_has_names_of, has_alone, is_written_names_of, any_is_written_names_of, substitute_has_written_names_of, has_written_alone}
 use Rattle.csl_style.specs.Tested.{tested_in_node, tested_in_nodes, tested_in_branches, tested_in_substitutes}
 use Rattle.csl_style.specs.Told.{names_if, names_told, told_in_node, told_in_nodes, told_in_branches, told_in_substitutes}
@@ -84,14 +85,15 @@ join_cross a b c d =
     ∙ join_assoc (named_union a c) b d ∙ join_assoc a c (named_union b d)
 
 -- what a macro's nodes name; nothing if the style lacks the macro
-abbrev pub in_macro : Part → Option ExpandedNodes → NamedSet
-in_macro part None = empty_named_set
-in_macro part (Some fs) = part_in part fs
+abbrev pub in_macro : (ExpandedNodes → NamedSet) → Option ExpandedNodes → NamedSet
+in_macro whole None = empty_named_set
+in_macro whole (Some fs) = whole fs
 
-module _ (part : Part) (env : List ℕ → Option ExpandedNodes) where
+-- `itself` says what a node names without those inside it, `whole` what nodes name altogether
+module _ (itself : Node → NamedSet) (whole : ExpandedNodes → NamedSet) (env : List ℕ → Option ExpandedNodes) where
   -- what a node names itself and by the macro that it calls, without the nodes inside it
   abbrev pub own_named : Node → NamedSet
-  own_named n = named_union (part_itself part n) (in_macro part (called_nodes env (called_name n)))
+  own_named n = named_union (itself n) (in_macro whole (called_nodes env (called_name n)))
 
   abbrev pub all_named : List Node → NamedSet
   all_named [] = empty_named_set
@@ -120,39 +122,39 @@ module _ (env : List ℕ → Option ExpandedNodes) where
       substitutes_within env (named_in_node) (named_in_nodes) named_union (λ original n. join_same (named_in_names n) ∙ sym (join_none (named_in_names n))) (λ f fs. refl)
       (named_in_substitutes) whole_substitutes named_union refl (λ fs is. refl) (λ ns ss. refl)
 
-  whole_by_call : (d : TextDressing) (o : Option ExpandedNodes) → in_macro Whole o ≡ named_in_node (expand_call d o)
+  whole_by_call : (d : TextDressing) (o : Option ExpandedNodes) → in_macro named_in_nodes o ≡ named_in_node (expand_call d o)
   whole_by_call d None = refl
   whole_by_call d (Some fs) = refl
 
   mutual
-    pub whole_list : (ns : Nodes) → all_named Whole env (all_nodes ns) ≡ named_in_nodes (expand_nodes env ns)
+    pub whole_list : (ns : Nodes) → all_named named_itself named_in_nodes env (all_nodes ns) ≡ named_in_nodes (expand_nodes env ns)
     whole_list no_nodes = refl
     whole_list (node n ns) =
-        ap (named_union (own_named Whole env n)) (named_append Whole env (nodes_inside n) (all_nodes ns))
-        ∙ sym (join_assoc (own_named Whole env n) (all_named Whole env (nodes_inside n)) (all_named Whole env (all_nodes ns)))
+        ap (named_union (own_named named_itself named_in_nodes env n)) (named_append named_itself named_in_nodes env (nodes_inside n) (all_nodes ns))
+        ∙ sym (join_assoc (own_named named_itself named_in_nodes env n) (all_named named_itself named_in_nodes env (nodes_inside n)) (all_named named_itself named_in_nodes env (all_nodes ns)))
         ∙ ap₂ named_union (whole_node n) (whole_list ns)
 
-    whole_node : (n : Node) → named_union (own_named Whole env n) (all_named Whole env (nodes_inside n)) ≡ named_in_node (expand env n)
+    whole_node : (n : Node) → named_union (own_named named_itself named_in_nodes env n) (all_named named_itself named_in_nodes env (nodes_inside n)) ≡ named_in_node (expand env n)
     whole_node (text t d) = leaf (named_in_target t)
-    whole_node (call name d) = join_none _ ∙ none_join (in_macro Whole (env name)) ∙ whole_by_call d (env name)
+    whole_node (call name d) = join_none _ ∙ none_join (in_macro named_in_nodes (env name)) ∙ whole_by_call d (env name)
     whole_node (number n) = leaf (the_number_or_page n.variable)
     whole_node (label u l) = leaf (the_number_or_page u)
     whole_node (date d) = leaf (date_if d.variable)
     whole_node (names n ss) = ap₂ named_union (join_none (named_in_names n)) (whole_insides ss ∙ sym (whole_within n ss))
-    whole_node (choose bs) = ap (λ a. named_union a (all_named Whole env (nodes_in_branches bs))) (join_none (named_in_all_tests bs)) ∙ whole_branches bs
-    whole_node (group delimiter d ns) = nothing_before (all_named Whole env (all_nodes ns)) ∙ whole_list ns
+    whole_node (choose bs) = ap (λ a. named_union a (all_named named_itself named_in_nodes env (nodes_in_branches bs))) (join_none (named_in_all_tests bs)) ∙ whole_branches bs
+    whole_node (group delimiter d ns) = nothing_before (all_named named_itself named_in_nodes env (all_nodes ns)) ∙ whole_list ns
 
-    whole_branches : (bs : Branches) → named_union (named_in_all_tests bs) (all_named Whole env (nodes_in_branches bs)) ≡ named_in_branches (expand_branches env bs)
+    whole_branches : (bs : Branches) → named_union (named_in_all_tests bs) (all_named named_itself named_in_nodes env (nodes_in_branches bs)) ≡ named_in_branches (expand_branches env bs)
     whole_branches no_branches = join_none empty_named_set
-    whole_branches (otherwise ns) = none_join (all_named Whole env (all_nodes ns)) ∙ whole_list ns
+    whole_branches (otherwise ns) = none_join (all_named named_itself named_in_nodes env (all_nodes ns)) ∙ whole_list ns
     whole_branches (branch ts ns bs) =
-        ap (named_union (named_union (named_in_tests ts) (named_in_all_tests bs))) (named_append Whole env (all_nodes ns) (nodes_in_branches bs))
-        ∙ join_cross (named_in_tests ts) (named_in_all_tests bs) (all_named Whole env (all_nodes ns)) (all_named Whole env (nodes_in_branches bs))
+        ap (named_union (named_union (named_in_tests ts) (named_in_all_tests bs))) (named_append named_itself named_in_nodes env (all_nodes ns) (nodes_in_branches bs))
+        ∙ join_cross (named_in_tests ts) (named_in_all_tests bs) (all_named named_itself named_in_nodes env (all_nodes ns)) (all_named named_itself named_in_nodes env (nodes_in_branches bs))
         ∙ ap (named_union (named_in_tests ts)) (ap₂ named_union (whole_list ns) (whole_branches bs))
 
-    whole_insides : (ss : Substitutes) → all_named Whole env (nodes_in_substitutes ss) ≡ whole_substitutes ss
+    whole_insides : (ss : Substitutes) → all_named named_itself named_in_nodes env (nodes_in_substitutes ss) ≡ whole_substitutes ss
     whole_insides no_substitutes = refl
-    whole_insides (substitute ns ss) = named_append Whole env (all_nodes ns) (nodes_in_substitutes ss) ∙ ap₂ named_union (whole_list ns) (whole_insides ss)
+    whole_insides (substitute ns ss) = named_append named_itself named_in_nodes env (all_nodes ns) (nodes_in_substitutes ss) ∙ ap₂ named_union (whole_list ns) (whole_insides ss)
 
 -- ---- what tests of branches name
 
@@ -167,39 +169,39 @@ module _ (env : List ℕ → Option ExpandedNodes) where
       substitutes_within env (tested_in_node) (tested_in_nodes) named_union (λ original n. refl) (λ f fs. refl)
       (tested_in_substitutes) tested_substitutes named_union refl (λ fs is. refl) (λ ns ss. refl)
 
-  tested_by_call : (d : TextDressing) (o : Option ExpandedNodes) → in_macro Tested o ≡ tested_in_node (expand_call d o)
+  tested_by_call : (d : TextDressing) (o : Option ExpandedNodes) → in_macro tested_in_nodes o ≡ tested_in_node (expand_call d o)
   tested_by_call d None = refl
   tested_by_call d (Some fs) = refl
 
   mutual
-    pub tested_list : (ns : Nodes) → all_named Tested env (all_nodes ns) ≡ tested_in_nodes (expand_nodes env ns)
+    pub tested_list : (ns : Nodes) → all_named tested_itself tested_in_nodes env (all_nodes ns) ≡ tested_in_nodes (expand_nodes env ns)
     tested_list no_nodes = refl
     tested_list (node n ns) =
-        ap (named_union (own_named Tested env n)) (named_append Tested env (nodes_inside n) (all_nodes ns))
-        ∙ sym (join_assoc (own_named Tested env n) (all_named Tested env (nodes_inside n)) (all_named Tested env (all_nodes ns)))
+        ap (named_union (own_named tested_itself tested_in_nodes env n)) (named_append tested_itself tested_in_nodes env (nodes_inside n) (all_nodes ns))
+        ∙ sym (join_assoc (own_named tested_itself tested_in_nodes env n) (all_named tested_itself tested_in_nodes env (nodes_inside n)) (all_named tested_itself tested_in_nodes env (all_nodes ns)))
         ∙ ap₂ named_union (tested_node n) (tested_list ns)
 
-    tested_node : (n : Node) → named_union (own_named Tested env n) (all_named Tested env (nodes_inside n)) ≡ tested_in_node (expand env n)
+    tested_node : (n : Node) → named_union (own_named tested_itself tested_in_nodes env n) (all_named tested_itself tested_in_nodes env (nodes_inside n)) ≡ tested_in_node (expand env n)
     tested_node (text t d) = leaf empty_named_set
-    tested_node (call name d) = join_none _ ∙ none_join (in_macro Tested (env name)) ∙ tested_by_call d (env name)
+    tested_node (call name d) = join_none _ ∙ none_join (in_macro tested_in_nodes (env name)) ∙ tested_by_call d (env name)
     tested_node (number n) = leaf empty_named_set
     tested_node (label u l) = leaf empty_named_set
     tested_node (date d) = leaf empty_named_set
-    tested_node (names n ss) = nothing_before (all_named Tested env (nodes_in_substitutes ss)) ∙ tested_insides ss ∙ sym (tested_within n ss)
-    tested_node (choose bs) = ap (λ a. named_union a (all_named Tested env (nodes_in_branches bs))) (join_none (named_in_all_tests bs)) ∙ tested_branches bs
-    tested_node (group delimiter d ns) = nothing_before (all_named Tested env (all_nodes ns)) ∙ tested_list ns
+    tested_node (names n ss) = nothing_before (all_named tested_itself tested_in_nodes env (nodes_in_substitutes ss)) ∙ tested_insides ss ∙ sym (tested_within n ss)
+    tested_node (choose bs) = ap (λ a. named_union a (all_named tested_itself tested_in_nodes env (nodes_in_branches bs))) (join_none (named_in_all_tests bs)) ∙ tested_branches bs
+    tested_node (group delimiter d ns) = nothing_before (all_named tested_itself tested_in_nodes env (all_nodes ns)) ∙ tested_list ns
 
-    tested_branches : (bs : Branches) → named_union (named_in_all_tests bs) (all_named Tested env (nodes_in_branches bs)) ≡ tested_in_branches (expand_branches env bs)
+    tested_branches : (bs : Branches) → named_union (named_in_all_tests bs) (all_named tested_itself tested_in_nodes env (nodes_in_branches bs)) ≡ tested_in_branches (expand_branches env bs)
     tested_branches no_branches = join_none empty_named_set
-    tested_branches (otherwise ns) = none_join (all_named Tested env (all_nodes ns)) ∙ tested_list ns
+    tested_branches (otherwise ns) = none_join (all_named tested_itself tested_in_nodes env (all_nodes ns)) ∙ tested_list ns
     tested_branches (branch ts ns bs) =
-        ap (named_union (named_union (named_in_tests ts) (named_in_all_tests bs))) (named_append Tested env (all_nodes ns) (nodes_in_branches bs))
-        ∙ join_cross (named_in_tests ts) (named_in_all_tests bs) (all_named Tested env (all_nodes ns)) (all_named Tested env (nodes_in_branches bs))
+        ap (named_union (named_union (named_in_tests ts) (named_in_all_tests bs))) (named_append tested_itself tested_in_nodes env (all_nodes ns) (nodes_in_branches bs))
+        ∙ join_cross (named_in_tests ts) (named_in_all_tests bs) (all_named tested_itself tested_in_nodes env (all_nodes ns)) (all_named tested_itself tested_in_nodes env (nodes_in_branches bs))
         ∙ ap (named_union (named_in_tests ts)) (ap₂ named_union (tested_list ns) (tested_branches bs))
 
-    tested_insides : (ss : Substitutes) → all_named Tested env (nodes_in_substitutes ss) ≡ tested_substitutes ss
+    tested_insides : (ss : Substitutes) → all_named tested_itself tested_in_nodes env (nodes_in_substitutes ss) ≡ tested_substitutes ss
     tested_insides no_substitutes = refl
-    tested_insides (substitute ns ss) = named_append Tested env (all_nodes ns) (nodes_in_substitutes ss) ∙ ap₂ named_union (tested_list ns) (tested_insides ss)
+    tested_insides (substitute ns ss) = named_append tested_itself tested_in_nodes env (all_nodes ns) (nodes_in_substitutes ss) ∙ ap₂ named_union (tested_list ns) (tested_insides ss)
 
 -- ---- what a cite of one variable tells beside it
 
@@ -262,46 +264,50 @@ module _ (v : Variable) (env : List ℕ → Option ExpandedNodes) where
       substitutes_within env (told_in_node v) (told_in_nodes v) named_union (shorthand_told v) (λ f fs. refl)
       (told_in_substitutes v) told_substitutes named_union refl (λ fs is. refl) (λ ns ss. refl)
 
-  told_by_call : (d : TextDressing) (o : Option ExpandedNodes) → in_macro (Beside v) o ≡ told_in_node v (expand_call d o)
+  told_by_call : (d : TextDressing) (o : Option ExpandedNodes) → in_macro (told_in_nodes v) o ≡ told_in_node v (expand_call d o)
   told_by_call d None = refl
   told_by_call d (Some fs) = refl
 
   mutual
-    pub told_list : (ns : Nodes) → all_named (Beside v) env (all_nodes ns) ≡ told_in_nodes v (expand_nodes env ns)
+    pub told_list : (ns : Nodes) → all_named (told_itself v) (told_in_nodes v) env (all_nodes ns) ≡ told_in_nodes v (expand_nodes env ns)
     told_list no_nodes = refl
     told_list (node n ns) =
-        ap (named_union (own_named (Beside v) env n)) (named_append (Beside v) env (nodes_inside n) (all_nodes ns))
-        ∙ sym (join_assoc (own_named (Beside v) env n) (all_named (Beside v) env (nodes_inside n)) (all_named (Beside v) env (all_nodes ns)))
+        ap (named_union (own_named (told_itself v) (told_in_nodes v) env n)) (named_append (told_itself v) (told_in_nodes v) env (nodes_inside n) (all_nodes ns))
+        ∙ sym (join_assoc (own_named (told_itself v) (told_in_nodes v) env n) (all_named (told_itself v) (told_in_nodes v) env (nodes_inside n)) (all_named (told_itself v) (told_in_nodes v) env (all_nodes ns)))
         ∙ ap₂ named_union (told_node n) (told_list ns)
 
-    told_node : (n : Node) → named_union (own_named (Beside v) env n) (all_named (Beside v) env (nodes_inside n)) ≡ told_in_node v (expand env n)
+    told_node : (n : Node) → named_union (own_named (told_itself v) (told_in_nodes v) env n) (all_named (told_itself v) (told_in_nodes v) env (nodes_inside n)) ≡ told_in_node v (expand env n)
     told_node (text t d) = leaf empty_named_set
-    told_node (call name d) = join_none _ ∙ none_join (in_macro (Beside v) (env name)) ∙ told_by_call d (env name)
+    told_node (call name d) = join_none _ ∙ none_join (in_macro (told_in_nodes v) (env name)) ∙ told_by_call d (env name)
     told_node (number n) = leaf empty_named_set
     told_node (label u l) = leaf (the_number_or_page u)
     told_node (date d) = leaf empty_named_set
     told_node (names n ss) = ap₂ named_union (join_none (names_if (has_written_alone v n ss) n) ∙ ap (λ b. names_if b n) (alone_written env v n ss)) (told_insides ss ∙ sym (told_within n ss))
-    told_node (choose bs) = ap (λ a. named_union a (all_named (Beside v) env (nodes_in_branches bs))) (join_none (named_in_all_tests bs)) ∙ told_branches bs
-    told_node (group delimiter d ns) = nothing_before (all_named (Beside v) env (all_nodes ns)) ∙ told_list ns
+    told_node (choose bs) = ap (λ a. named_union a (all_named (told_itself v) (told_in_nodes v) env (nodes_in_branches bs))) (join_none (named_in_all_tests bs)) ∙ told_branches bs
+    told_node (group delimiter d ns) = nothing_before (all_named (told_itself v) (told_in_nodes v) env (all_nodes ns)) ∙ told_list ns
 
-    told_branches : (bs : Branches) → named_union (named_in_all_tests bs) (all_named (Beside v) env (nodes_in_branches bs)) ≡ told_in_branches v (expand_branches env bs)
+    told_branches : (bs : Branches) → named_union (named_in_all_tests bs) (all_named (told_itself v) (told_in_nodes v) env (nodes_in_branches bs)) ≡ told_in_branches v (expand_branches env bs)
     told_branches no_branches = join_none empty_named_set
-    told_branches (otherwise ns) = none_join (all_named (Beside v) env (all_nodes ns)) ∙ told_list ns
+    told_branches (otherwise ns) = none_join (all_named (told_itself v) (told_in_nodes v) env (all_nodes ns)) ∙ told_list ns
     told_branches (branch ts ns bs) =
-        ap (named_union (named_union (named_in_tests ts) (named_in_all_tests bs))) (named_append (Beside v) env (all_nodes ns) (nodes_in_branches bs))
-        ∙ join_cross (named_in_tests ts) (named_in_all_tests bs) (all_named (Beside v) env (all_nodes ns)) (all_named (Beside v) env (nodes_in_branches bs))
+        ap (named_union (named_union (named_in_tests ts) (named_in_all_tests bs))) (named_append (told_itself v) (told_in_nodes v) env (all_nodes ns) (nodes_in_branches bs))
+        ∙ join_cross (named_in_tests ts) (named_in_all_tests bs) (all_named (told_itself v) (told_in_nodes v) env (all_nodes ns)) (all_named (told_itself v) (told_in_nodes v) env (nodes_in_branches bs))
         ∙ ap (named_union (named_in_tests ts)) (ap₂ named_union (told_list ns) (told_branches bs))
 
-    told_insides : (ss : Substitutes) → all_named (Beside v) env (nodes_in_substitutes ss) ≡ told_substitutes ss
+    told_insides : (ss : Substitutes) → all_named (told_itself v) (told_in_nodes v) env (nodes_in_substitutes ss) ≡ told_substitutes ss
     told_insides no_substitutes = refl
-    told_insides (substitute ns ss) = named_append (Beside v) env (all_nodes ns) (nodes_in_substitutes ss) ∙ ap₂ named_union (told_list ns) (told_insides ss)
+    told_insides (substitute ns ss) = named_append (told_itself v) (told_in_nodes v) env (all_nodes ns) (nodes_in_substitutes ss) ∙ ap₂ named_union (told_list ns) (told_insides ss)
 
 -- ---- each part
 
-pub list_named : (part : Part) (env : List ℕ → Option ExpandedNodes) (ns : Nodes) → all_named part env (all_nodes ns) ≡ part_in part (expand_nodes env ns)
-list_named Whole env ns = whole_list env ns
-list_named Tested env ns = tested_list env ns
-list_named (Beside v) env ns = told_list v env ns
+-- what the nodes of a list name one by one is what the list names
+abbrev pub AddsUp : (Node → NamedSet) → (ExpandedNodes → NamedSet) → Type 0
+AddsUp itself whole = (env : List ℕ → Option ExpandedNodes) (ns : Nodes) → all_named itself whole env (all_nodes ns) ≡ whole (expand_nodes env ns)
+
+pub part_adds_up : (part : Part) → AddsUp (part_itself part) (part_in part)
+part_adds_up Whole = whole_list
+part_adds_up Tested = tested_list
+part_adds_up (Beside v) = told_list v
 
 pub join_comm : (a b : NamedSet) → named_union a b ≡ named_union b a
 unfolding named_union

@@ -1,26 +1,64 @@
--- What a name stands for, by the place of its macro, and whether a text of the year suffix is in it.
-use Rattle.std.proofs.Common.{◌≡◌, ℕ, List, Bool, false, slice_index_or, Option, Some, None, option_map, IfSome, ap, ◌∙◌}
-use Rattle.csl_elements.specs.Node.{expand_nodes}
+-- A walk through all nodes that a layout reaches (`Walks`) meets a text of the year suffix exactly if
+-- one is in the layout with all macros expanded. Such a text is taken as naming everything.
+use Rattle.std.proofs.Common.{◌≡◌, ℕ, List, [], ◌∷◌, length, replicate, Bool, true, false, Option, Some, None, refl, sym, ap, ap₂, ◌∙◌}
+use Rattle.std.specs.Prelude.{◌||◌}
+use Rattle.csl_elements.specs.NamedSet.{NamedItem, a_variable, NamedSet, empty_named_set, named_union}
+use Rattle.csl_elements.specs.Node.{Node, Nodes, ExpandedNodes, expand_nodes}
 use Rattle.csl_elements.specs.View.{Definition}
-use Rattle.csl_style.specs.Expansion.{macro_index, macro_expansion, IsAcyclic}
-use Rattle.csl_style.specs.CallGraph.{children_at}
-use Rattle.csl_style.specs.YearSuffix.{any_has_year_suffix, macro_has_year_suffix, AreKnown}
-use Rattle.csl_style.proofs.Called.{place-is}
-use Rattle.csl_style.proofs.Meanings.{body-none, meaning-unfolds}
+use Rattle.csl_elements.specs.declared.taxonomy.Variable.TheVariants as variable
+use Rattle.csl_elements.specs.declared.taxonomy.StandardVariable.TheVariants.{YearSuffix}
+use Rattle.csl_style.specs.AllNodes.{all_nodes, called_name, is_suffix_text}
+use Rattle.csl_style.specs.Expansion.{macro_expansion}
+use Rattle.csl_style.specs.Reached.{called_nodes, IsStep}
+use Rattle.csl_style.specs.YearSuffix.{any_has_year_suffix}
+use Rattle.csl_style.proofs.AllNodesLaws.{called_has, any_own, all_has}
+use Rattle.csl_style.proofs.NamedNodes.{AddsUp, in_macro, all_named}
+use Rattle.csl_style.proofs.Walks.{IsWalk, start_at, stepped, first_named, finished_at}
 
-module _ (ds : List Definition) (name : List ℕ) (ok : IsAcyclic ds) where
-  pub none-has : macro_index name ds ≡ None → macro_has_year_suffix (macro_expansion ds name) ≡ false
-  none-has h = ap macro_has_year_suffix (meaning-unfolds ds name ok ∙ ap (option_map (expand_nodes (macro_expansion ds))) (body-none name ds h))
+abbrev pub suffix_itself : Node → NamedSet
+suffix_itself n q = is_suffix_text n
 
-  pub meaning-at : (i : ℕ) → macro_index name ds ≡ Some i → macro_expansion ds name ≡ Some (expand_nodes (macro_expansion ds) (children_at ds i))
-  meaning-at i h = meaning-unfolds ds name ok ∙ ap (option_map (expand_nodes (macro_expansion ds))) (place-is name ds i h).holds
+abbrev pub suffix_in : ExpandedNodes → NamedSet
+suffix_in fs q = any_has_year_suffix fs
 
-pub meaning-if : (ds : List Definition) (name : List ℕ) → IsAcyclic ds → (o : Option ℕ) → macro_index name ds ≡ o
-    → IfSome o (λ i. macro_expansion ds name ≡ Some (expand_nodes (macro_expansion ds) (children_at ds i)))
-meaning-if ds name ok None h = tt
-meaning-if ds name ok (Some i) h = meaning-at ds name ok i h
+called_bits : (env : List ℕ → Option ExpandedNodes) (o : Option (List ℕ)) (q : NamedItem) → in_macro suffix_in (called_nodes env o) q ≡ called_has env o
+called_bits env None q = refl
+called_bits env (Some name) q = by_meaning (env name) refl where
+  by_meaning : (m : Option ExpandedNodes) → env name ≡ m → in_macro suffix_in (env name) q ≡ called_has env (Some name)
+  by_meaning None e = rw e refl
+  by_meaning (Some fs) e = rw e refl
 
-pub known-is : (ds : List Definition) (known : List (Option Bool)) → AreKnown ds known → (i : ℕ) (o : Option Bool) → slice_index_or known i None ≡ o
-    → IfSome o (λ has. any_has_year_suffix (expand_nodes (macro_expansion ds) (children_at ds i)) ≡ has)
-known-is ds known is i None e = tt
-known-is ds known is i (Some has) e = is.holds i has e
+suffix_bits : (env : List ℕ → Option ExpandedNodes) (xs : List Node) (q : NamedItem) → all_named suffix_itself suffix_in env xs q ≡ any_own env xs
+unfolding named_union
+suffix_bits env [] q = refl
+suffix_bits env (x ∷ xs) q = ap₂ (λ a b. (is_suffix_text x || a) || b) (called_bits env (called_name x) q) (suffix_bits env xs q)
+
+suffix_adds_up : AddsUp suffix_itself suffix_in
+suffix_adds_up env ns = λ i q. (suffix_bits env (all_nodes ns) q ∙ all_has env ns) i
+
+-- the walk met no such text yet
+abbrev pub IsSearch : List Definition → Nodes → List Bool → List Node → Type 0
+IsSearch ds ns seen left = IsWalk suffix_itself suffix_in ds ns empty_named_set seen left
+
+an_item : NamedItem
+an_item = a_variable (variable.Standard YearSuffix)
+
+none_more : (b : Bool) → b ≡ false → empty_named_set ≡ named_union empty_named_set (λ q. b)
+unfolding named_union
+none_more true e = absurd (true_is e) where
+  true_is : true ≡ false → ⊥
+  true_is e = cc
+none_more false e = refl
+
+module _ (ds : List Definition) (ns : Nodes) where
+  pub search_starts : (seen : List Bool) (left : List Node) → seen ≡ replicate (length ds) false → left ≡ all_nodes ns → IsSearch ds ns seen left
+  search_starts seen left f g = start_at suffix_itself suffix_in suffix_adds_up ds ns empty_named_set seen left refl f g
+
+  pub search_goes_on : (seen new : List Bool) (v : Node) (left more : List Node) → IsSearch ds ns seen left → IsStep ds v seen left new more → is_suffix_text v ≡ false → IsSearch ds ns new more
+  search_goes_on seen new v left more w s e = stepped suffix_itself suffix_in suffix_adds_up ds ns empty_named_set empty_named_set seen new v left more w s (none_more (is_suffix_text v) e)
+
+  pub search_finds : (seen new : List Bool) (v : Node) (left more : List Node) → IsSearch ds ns seen left → IsStep ds v seen left new more → is_suffix_text v ≡ true → any_has_year_suffix (expand_nodes (macro_expansion ds) ns) ≡ true
+  search_finds seen new v left more w (rest, e, other) is = first_named suffix_itself suffix_in suffix_adds_up ds ns empty_named_set seen left v rest w e an_item is
+
+  pub search_ends : (seen : List Bool) (left : List Node) → IsSearch ds ns seen left → left ≡ [] → any_has_year_suffix (expand_nodes (macro_expansion ds) ns) ≡ false
+  search_ends seen left w e = sym (ap (λ (s : NamedSet). s an_item) (finished_at suffix_itself suffix_in suffix_adds_up ds ns empty_named_set seen left w e))

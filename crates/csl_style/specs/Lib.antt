@@ -20,6 +20,7 @@ pub mod Named
 pub mod NamesOf
 pub mod Tested
 pub mod Told
+pub mod Reached
 pub mod NamedWalk
 pub use Rattle.csl_elements.specs.Lookup
 pub use Rattle.csl_elements.specs.Formatting

@@ -1,19 +1,14 @@
 -- What nodes name one by one: all (`Named`), what tests of branches name (`Tested`), or what a cite of
--- one variable tells beside it (`Told`). A walk through all nodes of a layout (`AllNodes`) adds what each
--- of them names itself. Where a macro is called for the first time, the walk marks its place and goes
--- through its nodes too. Only private contracts cite these.
-use Rattle.std.specs.Prelude.{◌≡◌, ℕ, ◌<◌, List, [], ◌∷◌, length, set, Option, Some, None, Bool, true, Contains}
+-- one variable tells beside it (`Told`). A walk through all nodes that a layout reaches (`Reached`)
+-- adds what each of them names itself. Only private contracts cite these.
+use Rattle.std.specs.Prelude.{◌≡◌}
 use Rattle.csl_elements.specs.NamedSet.{NamedSet, named_union, empty_named_set}
 unfoldable pub use Rattle.csl_elements.specs.NamedSet.{named_set}
 use Rattle.csl_elements.specs.declared.element.ChooseBranch.{ChooseBranch}
 use Rattle.csl_elements.specs.declared.named.Named.{Named}
 use Rattle.csl_elements.specs.declared.taxonomy.Variable.{Variable}
-use Rattle.csl_elements.specs.Node.{Node, text, call, number, label, date, names, choose, group, Nodes, Branches, no_branches, otherwise, branch, ExpandedNodes, expand_nodes}
-use Rattle.csl_elements.specs.View.{Definition, view_branch}
-use Rattle.csl_style.specs.AllNodes.{called_name}
-use Rattle.csl_style.specs.CallGraph.{children_at, own_calls}
-use Rattle.csl_style.specs.Expansion.{macro_expansion}
-use Rattle.csl_style.specs.Cycles.{is_marked}
+use Rattle.csl_elements.specs.Node.{Node, text, call, number, label, date, names, choose, group, Branches, no_branches, otherwise, branch, ExpandedNodes}
+use Rattle.csl_elements.specs.View.{view_branch}
 use Rattle.csl_style.specs.Named.{named_in_target, the_number_or_page, date_if, named_in_names, named_in_nodes, named_in_tests}
 use Rattle.csl_style.specs.NamesOf.{has_written_alone}
 use Rattle.csl_style.specs.Tested.{tested_in_nodes}
@@ -78,25 +73,3 @@ abbrev pub part_in : Part → ExpandedNodes → NamedSet
 part_in Whole = named_in_nodes
 part_in Tested = tested_in_nodes
 part_in (Beside v) = told_in_nodes v
-
--- ---- the macros that nodes call
-
--- the nodes that a name stands for, if there is a name
-abbrev pub called_nodes : (List ℕ → Option ExpandedNodes) → Option (List ℕ) → Option ExpandedNodes
-called_nodes env None = None
-called_nodes env (Some name) = env name
-
--- each of the places is marked
-abbrev pub AreMarked : List Bool → List ℕ → Type 0
-AreMarked seen places = (i : ℕ) → Contains places i → is_marked seen i ≡ true
-
--- a node calls the macro at a place, and these are its nodes
-pub record IsCall (ds : List Definition) (n : Node) (i : ℕ) (body : Nodes) : Type 0 where
-  pub within : i < length ds
-  pub place : own_calls ds (called_name n) ≡ i ∷ []
-  pub nodes : children_at ds i ≡ body
-  pub meaning : called_nodes (macro_expansion ds) (called_name n) ≡ Some (expand_nodes (macro_expansion ds) body)
-
--- a node calls a macro whose place was not marked before, and these are its nodes
-abbrev pub IsFirstCall : List Definition → Node → Nodes → List Bool → List Bool → Type 0
-IsFirstCall ds n body old new = (i : ℕ) × IsCall ds n i body × (new ≡ set old i true)

@@ -2,7 +2,7 @@
 -- Macro; Disambiguation). The text may be in any group, in any branch of a choice, also one that is
 -- never chosen, and in any substitute, also one that is never rendered. A scope whose layout
 -- reaches none, and a scope without a layout, render the suffix implicitly, after the first year.
-use Rattle.std.specs.Prelude.{◌≡◌, ℕ, Bool, true, false, not, ◌||◌, List, length, slice_index_or, Option, Some, None, option_map}
+use Rattle.std.specs.Prelude.{Bool, true, false, not, ◌||◌, List, Option, Some, None, option_map}
 use Rattle.csl_elements.specs.declared.element.Layout.{Layout}
 use Rattle.csl_elements.specs.declared.taxonomy.Variable.{Variable}
 use Rattle.csl_elements.specs.declared.taxonomy.Variable.TheVariants as variable
@@ -10,10 +10,9 @@ use Rattle.csl_elements.specs.declared.taxonomy.StandardVariable.TheVariants.{Ye
 use Rattle.csl_style.specs.declared.style.settings.Scope.{Scope}
 use Rattle.csl_style.specs.Style.{StyleParts, layout_of}
 use Rattle.csl_elements.specs.View.{Definition, view_layout}
-use Rattle.csl_elements.specs.Node.{Target, of_variable, of_term, of_value, ExpandedNode, expanded_text, expanded_macro, unknown_macro, expanded_number, expanded_label, expanded_date, expanded_names, shorthand, expanded_choose, expanded_group, ExpandedNodes, no_expanded_nodes, expanded_node, ExpandedBranches, no_expanded_branches, expanded_otherwise, expanded_branch, ExpandedSubstitutes, no_expanded_substitutes, expanded_substitute, ExpandedLayout, expand_nodes, expand_layout}
+use Rattle.csl_elements.specs.Node.{Target, of_variable, of_term, of_value, ExpandedNode, expanded_text, expanded_macro, unknown_macro, expanded_number, expanded_label, expanded_date, expanded_names, shorthand, expanded_choose, expanded_group, ExpandedNodes, no_expanded_nodes, expanded_node, ExpandedBranches, no_expanded_branches, expanded_otherwise, expanded_branch, ExpandedSubstitutes, no_expanded_substitutes, expanded_substitute, ExpandedLayout, expand_layout}
 use Rattle.csl_style.specs.Expanded.{macro_env}
 use Rattle.csl_style.specs.Expansion.{macro_expansion}
-use Rattle.csl_style.specs.CallGraph.{children_at}
 
 -- the layout of a scope, with all macros expanded
 abbrev pub reached_layout : Scope → StyleParts → Option ExpandedLayout
@@ -56,12 +55,6 @@ abbrev mutual
   substitutes_have_year_suffix no_expanded_substitutes = false
   substitutes_have_year_suffix (expanded_substitute fs is) = any_has_year_suffix fs || substitutes_have_year_suffix is
 
--- whether a text of the year suffix is in the nodes that a name stands for; only private contracts
--- cite it
-abbrev pub macro_has_year_suffix : Option ExpandedNodes → Bool
-macro_has_year_suffix None = false
-macro_has_year_suffix (Some fs) = any_has_year_suffix fs
-
 -- no text of the year suffix is in the layout, or there is no layout
 abbrev pub is_year_suffix_implicit : Option ExpandedLayout → Bool
 is_year_suffix_implicit None = true
@@ -70,8 +63,3 @@ is_year_suffix_implicit (Some l) = not (any_has_year_suffix l.elements)
 -- the answer for a layout of a style with these macros
 abbrev pub is_implicit_in : List Definition → Option Layout → Bool
 is_implicit_in ds layout = is_year_suffix_implicit (option_map (λ l. expand_layout (macro_expansion ds) (view_layout l)) layout)
-
--- what is known of the macro at each place is so; only private contracts cite it
-pub record AreKnown (ds : List Definition) (known : List (Option Bool)) : Type 0 where
-  pub each : length known ≡ length ds
-  pub holds : (i : ℕ) (has : Bool) → slice_index_or known i None ≡ Some has → any_has_year_suffix (expand_nodes (macro_expansion ds) (children_at ds i)) ≡ has

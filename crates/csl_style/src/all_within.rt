@@ -9,9 +9,9 @@ ghost use Rattle.csl_style.specs.Expanded.{expanded_nodes};
 ghost use Rattle.csl_style.specs.AllWithin.{AreKnownSizes, IsKnownSize, AreNodesWithin, IsLayoutWithin, IsAllWithin, IsOneCall, IsOneVariable};
 
 use crate::depth::depth_of_all;
+use crate::reached::nodes_at;
 use crate::size::{MacroSize, is_layout_within, room_left_by_all};
 use crate::style::Style;
-use crate::year_suffix::nodes_at;
 use csl_common::Memory;
 use csl_elements::LayoutRenderingElement;
 use std::alloc::{AllocError, Global};

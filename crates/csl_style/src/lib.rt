@@ -14,6 +14,7 @@ mod missing;
 mod missing_term;
 mod named;
 mod places;
+mod reached;
 mod scopes;
 mod size;
 pub mod style;

@@ -1,27 +1,24 @@
 //! The variables and kinds that a layout names, in itself and in the macros that it reaches (CSL
 //! 1.0.2, Rendering Elements; Macro; Choose; Substitute): all of them, those in tests of branches,
-//! or those that a cite of one variable tells beside it. The nodes come as a flat list
-//! ([`RemainingNodes`]), so no depth takes stack.
+//! or those that a cite of one variable tells beside it.
 
-ghost use Rattle.std.specs.Prelude.{◌≡◌, None, length, IfSome, IfOk, OnOk, option_map};
+ghost use Rattle.std.specs.Prelude.{◌≡◌, IfOk, OnOk, option_map};
 ghost use Rattle.csl_elements.specs.Node.{expand_layout};
-ghost use Rattle.csl_elements.specs.View.{definitions, view_node, view_nodes, view_choose, view_names, view_layout};
+ghost use Rattle.csl_elements.specs.View.{view_node, view_choose, view_names, view_layout};
 ghost use Rattle.csl_elements.specs.NamedSet.{empty_named_set, named_set};
-ghost use Rattle.csl_style.specs.AllNodes.{called_name};
-ghost use Rattle.csl_style.specs.CallGraph.{own_calls};
 ghost use Rattle.csl_style.specs.Named.{the_variable, the_kind, the_name, the_date, the_number_or_page, each_of, each_if, named_in_nodes};
-ghost use Rattle.csl_style.specs.NamedWalk.{Adds, named_in_tests_of, named_itself, part_itself, part_in, AreMarked, IsFirstCall};
+ghost use Rattle.csl_style.specs.NamedWalk.{Adds, named_in_tests_of, named_itself, part_itself, part_in};
 ghost use Rattle.csl_style.specs.Expanded.{macro_env};
 
-use crate::all_nodes::{RemainingNodes, called_name};
+use crate::reached::ReachedNodes;
 use crate::style::Style;
 use crate::tested::add_tested;
 use crate::told::add_told;
 use csl_common::Memory;
 use csl_elements::{
-    Choose, ChooseBranch, CslMacro, DateVariable, Kind, Layout, LayoutRenderingElement,
-    NameVariable, Named, Names, NumberOrPageVariable, NumberVariable, PageVariable,
-    StandardVariable, TextTarget, Variable,
+    Choose, ChooseBranch, DateVariable, Kind, Layout, LayoutRenderingElement, NameVariable, Named,
+    Names, NumberOrPageVariable, NumberVariable, PageVariable, StandardVariable, TextTarget,
+    Variable,
 };
 use std::alloc::Global;
 use std::collections::BTreeSet;
@@ -219,29 +216,6 @@ fn add_node(named: &mut Named, node: &LayoutRenderingElement) -> Result<(), Memo
     }
 }
 
-/// The macro that a node calls, unless its place is marked or the style lacks it. The place is
-/// marked then.
-fn unmarked_macro<'s>(
-    style: &'s Style,
-    seen: &mut Vec<bool>,
-    node: &LayoutRenderingElement,
-) -> Option<&'s CslMacro>
-    requires { length seen.old.items ≡ length style.now.macros }
-    ensures first { IfSome result (λ found. IsFirstCall (definitions style.now.macros)
-        (view_node node.now) (view_nodes found.now.children.items) seen.old.items seen.new.items) }
-    ensures known { result ≡ None → AreMarked seen.old.items
-        (own_calls (definitions style.now.macros) (called_name (view_node node.now))) }
-    ensures unchanged { result ≡ None → seen.new.items ≡ seen.old.items }
-{
-    let name = called_name(node)?;
-    let i = style.macro_index(name)?;
-    if seen[i] {
-        return None;
-    }
-    seen[i] = true;
-    style.get_macro(name)
-}
-
 /// Adds the part of what a node names itself.
 fn add_part(named: &mut Named, part: Part, node: &LayoutRenderingElement) -> Result<(), Memory>
     ensures { OnOk result (Adds (part_itself part (view_node node.now)) named.old named.new) }
@@ -265,13 +239,10 @@ pub(crate) fn named_part(
         (expand_layout (macro_env style.now) (view_layout layout.now)).elements) }
 {
     let mut named = empty_named(alloc);
-    let mut seen = vec![in alloc; false; style.macros().len()]?;
-    let mut left = RemainingNodes::new(alloc, &layout.elements)?;
-    while let Some(node) = left.next()? {
+    let macros = style.acyclic_macros();
+    let mut reached = ReachedNodes::new(alloc, &macros, &layout.elements)?;
+    while let Some(node) = reached.next()? {
         add_part(&mut named, part, node)?;
-        if let Some(found) = unmarked_macro(style, &mut seen, node) {
-            left.push(&found.children)?;
-        }
     }
     Ok(named)
 }

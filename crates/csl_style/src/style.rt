@@ -19,6 +19,7 @@ use crate::call_graph::{PlacedMacros, call_graph};
 use crate::components::{Components, components_of};
 use crate::cycles::first_cyclic;
 use crate::places::{Places, places_by_name};
+use crate::reached::AcyclicMacros;
 use crate::term_places::TermPlaces;
 use crate::year_suffix::{ImplicitSuffix, implicit_suffix};
 use csl_common::GrammarGender;
@@ -184,14 +185,8 @@ impl Style {
             places,
             callees_first,
         } = checked;
-        let implicit = implicit_suffix(
-            alloc,
-            &macros,
-            &places,
-            &callees_first,
-            &citation,
-            &bibliography,
-        )?;
+        let acyclic = AcyclicMacros::new(&macros, &places);
+        let implicit = implicit_suffix(alloc, &acyclic, &citation, &bibliography)?;
         let term_places = TermPlaces::new(alloc, &locales)?;
         let ordinal_table = OrdinalTable::new(alloc, &locales)?;
         Ok(Style {
@@ -275,6 +270,13 @@ impl Style {
             (children_at (definitions self.now.macros) i))) }
     {
         self.places.get(name)
+    }
+
+    /// The macros, for a walk through all that a layout reaches.
+    pub(crate) fn acyclic_macros(&self) -> AcyclicMacros<'_>
+        ensures { result ≡ self.now.macros }
+    {
+        AcyclicMacros::new(&self.macros, &self.places)
     }
 
     /// The places of the macros, in an order in which each comes after those that it calls, though

@@ -1,7 +1,7 @@
 use Rattle.std.proofs.Common.{sym, ◌∙◌}
 use Rattle.csl_elements.specs.View.{definitions}
 use Rattle.csl_style.proofs.PlacesByName.{within-list}
-use Rattle.csl_style.proofs.SuffixSearch.{meaning-if}
+use Rattle.csl_style.proofs.Meanings.{meaning-if}
 use Rattle.csl_style.proofs.style.Style.macro_index.Goals as goal
 
 pub returns-clause-within : goal.returns-clause-within

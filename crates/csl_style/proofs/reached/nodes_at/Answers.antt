@@ -1,7 +1,7 @@
 use Rattle.std.proofs.Common.{sym, ap, ◌∙◌}
 use Rattle.csl_elements.specs.View.{view_nodes}
 use Rattle.csl_style.proofs.Called.{children-read}
-use Rattle.csl_style.proofs.year_suffix.nodes_at.Goals as goal
+use Rattle.csl_style.proofs.reached.nodes_at.Goals as goal
 
 pub returns : goal.returns
 returns c =
