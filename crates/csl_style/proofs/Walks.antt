@@ -7,14 +7,16 @@ use Rattle.std.proofs.lemmas.List.{length-replicate}
 use Rattle.std.proofs.lemmas.List.Elements.{Contains-append_left, Contains-append_right}
 use Rattle.csl_elements.specs.NamedSet.{NamedItem, NamedSet, empty_named_set, named_union}
 use Rattle.csl_elements.specs.Node.{Node, Nodes, ExpandedNodes, expand_nodes, sizes}
-use Rattle.csl_elements.specs.View.{Definition}
+use Rattle.csl_elements.specs.View.{Definition, definitions}
+use Rattle.csl_elements.specs.declared.element.CslMacro.{CslMacro}
 use Rattle.csl_style.specs.AllNodes.{all_nodes, called_name}
 use Rattle.csl_style.specs.CallGraph.{call_of, children_at, own_calls}
 use Rattle.csl_style.specs.Expansion.{macro_index, macro_body, macro_expansion, expansion_to_depth, IsAcyclic}
 use Rattle.csl_style.specs.Cycles.{is_marked}
-use Rattle.csl_style.specs.Reached.{called_nodes, AreMarked, IsCall, IsStep}
+use Rattle.csl_style.specs.Reached.{called_nodes, AreMarked, IsCall, IsStart, IsStep, Takes, nodes_left}
+use Rattle.csl_style.specs.declared.reached.ReachedNodes.{ReachedNodes}
 use Rattle.csl_style.proofs.AllNodesLaws.{called_cost, expansion_cost, costs, costs_append, all_cost}
-use Rattle.csl_style.proofs.Called.{place-is}
+use Rattle.csl_style.proofs.Called.{place-is, length-definitions}
 use Rattle.csl_style.proofs.Marks.{none-marked, marked-before, still-marked}
 use Rattle.csl_style.proofs.Meanings.{body-none, meaning-at}
 use Rattle.csl_style.proofs.NamedNodes.{AddsUp, in_macro, own_named, all_named, named_append}
@@ -117,9 +119,6 @@ module _ (itself : Node → NamedSet) (whole : ExpandedNodes → NamedSet) (sums
       macros = λ i h. absurd (false≢true (sym (none-marked (length ds) i) ∙ h));
     }
 
-    pub start_at : (named : NamedSet) (seen : List Bool) (left : List Node) → named ≡ empty_named_set → seen ≡ replicate (length ds) false → left ≡ all_nodes ns → Walks named seen left
-    start_at named seen left e f g = rw (e, f, g) start
-
     -- ---- a step
 
     -- a node is taken and what it names itself is named; the places that were marked stay so
@@ -190,11 +189,7 @@ module _ (itself : Node → NamedSet) (whole : ExpandedNodes → NamedSet) (sums
             body_or_left i c q (inl h) = own_within q (in_right (itself v) (in_macro whole (called_nodes env (called_name v))) q (subst (λ (s : NamedSet). s q ≡ true) (sums env (children_at ds i) ∙ ap (in_macro whole) (sym c.meaning)) h))
             body_or_left i c q (inr h) = left_within q h
 
-    -- what a node names that is left, the layout names
-    pub first_named : (named : NamedSet) (seen : List Bool) (left : List Node) (v : Node) (rest : List Node) → Walks named seen left → left ≡ v ∷ rest → Within (itself v) all
-    first_named named seen left v rest w e = itself_within named seen v rest (subst (Walks named seen) e w)
-
-    pub stepped : (named after : NamedSet) (seen new : List Bool) (v : Node) (left more : List Node) → Walks named seen left → IsStep ds v seen left new more → after ≡ named_union named (itself v) → Walks after new more
+    stepped : (named after : NamedSet) (seen new : List Bool) (v : Node) (left more : List Node) → Walks named seen left → IsStep ds v seen left new more → after ≡ named_union named (itself v) → Walks after new more
     stepped named after seen new v left more w (rest, e, inl (marked, f, g)) is = rw (is, f, g) (passed named seen v rest (subst (Walks named seen) e w) marked)
     stepped named after seen new v left more w (rest, e, inr (i, call, f, g)) is = rw (is, f, g) (entered named seen v rest (subst (Walks named seen) e w) i call)
 
@@ -248,8 +243,39 @@ module _ (itself : Node → NamedSet) (whole : ExpandedNodes → NamedSet) (sums
         same_items named (whole (expand_nodes env ns)) w.sound
         (subst (λ (s : NamedSet). Within s named) (sums env ns) (list_within named seen closed env (all_within named seen closed) (all_nodes ns) (λ n h. done n (w.layout n h))))
 
-  pub finished_at : (ns : Nodes) (named : NamedSet) (seen : List Bool) (left : List Node) → IsWalk itself whole ds ns named seen left → left ≡ [] → named ≡ whole (expand_nodes env ns)
-  finished_at ns named seen left w e = finished ns named seen (subst (IsWalk itself whole ds ns named seen) e w)
+-- ---- the walk of the code
+
+-- the walk is one through these macros, and named what it took
+abbrev pub IsAt : (Node → NamedSet) → (ExpandedNodes → NamedSet) → List CslMacro → Nodes → NamedSet → ReachedNodes → Type 0
+IsAt itself whole ms ns named w = (w.macros.now ≡ ms) × IsWalk itself whole (definitions ms) ns named w.seen.items (nodes_left w)
+
+module _ (itself : Node → NamedSet) (whole : ExpandedNodes → NamedSet) (sums : AddsUp itself whole) (ms : List CslMacro) (ns : Nodes) where
+  abbrev At : NamedSet → ReachedNodes → Type 0
+  At named w = IsAt itself whole ms ns named w
+
+  abbrev every : NamedSet
+  every = whole (expand_nodes (macro_expansion (definitions ms)) ns)
+
+  pub at_start : (w : ReachedNodes) → IsStart ms ns w → At empty_named_set w
+  at_start w (macros, seen, left) =
+      let none : w.seen.items ≡ replicate (length (definitions ms)) false = seen ∙ ap (λ n. replicate n false) (sym (length-definitions ms)) in
+      (macros, rw (none, left) (start itself whole sums (definitions ms) ns))
+
+  step_of : (v : Node) (old new : ReachedNodes) → old.macros.now ≡ ms → Takes v old new → IsStep (definitions ms) v old.seen.items (nodes_left old) new.seen.items (nodes_left new)
+  step_of v old new same takes = subst (λ (xs : List CslMacro). IsStep (definitions xs) v old.seen.items (nodes_left old) new.seen.items (nodes_left new)) same takes.1
+
+  pub at_next : (named after : NamedSet) (v : Node) (old new : ReachedNodes) → At named old → Takes v old new → after ≡ named_union named (itself v) → At after new
+  at_next named after v old new (same, w) takes is =
+      (ap (λ m. m.now) takes.0 ∙ same, stepped itself whole sums (definitions ms) ns named after old.seen.items new.seen.items v (nodes_left old) (nodes_left new) w (step_of v old new same takes) is)
+
+  -- what a node names that is taken, the layout names
+  pub taken_named : (named : NamedSet) (v : Node) (old new : ReachedNodes) → At named old → Takes v old new → Within (itself v) every
+  taken_named named v old new (same, w) takes =
+      let step = step_of v old new same takes in
+      itself_within itself whole sums (definitions ms) ns named old.seen.items v step.0 (subst (IsWalk itself whole (definitions ms) ns named old.seen.items) step.1 w)
+
+  pub at_end : (named : NamedSet) (w : ReachedNodes) → At named w → nodes_left w ≡ [] → named ≡ every
+  at_end named w (same, is) e = finished itself whole sums (definitions ms) ns named w.seen.items (subst (IsWalk itself whole (definitions ms) ns named w.seen.items) e is)
 
 -- ---- how much is left falls
 
@@ -257,12 +283,19 @@ called_cost_is : (env : List ℕ → Option ExpandedNodes) (o : Option (List ℕ
 called_cost_is env None fs e = grind arith
 called_cost_is env (Some name) fs e = ap (expansion_cost env) e
 
-pub step_falls : (ds : List Definition) (v : Node) (seen new : List Bool) (left more : List Node) → IsStep ds v seen left new more → costs (macro_expansion ds) more < costs (macro_expansion ds) left
+step_falls : (ds : List Definition) (v : Node) (seen new : List Bool) (left more : List Node) → IsStep ds v seen left new more → costs (macro_expansion ds) more < costs (macro_expansion ds) left
 step_falls ds v seen new left more (rest, e, inl (marked, f, g)) = rw (e, g) (omega arith)
 step_falls ds v seen new left more (rest, e, inr (i, c, f, g)) =
     let env = macro_expansion ds in
     let body = children_at ds i in
     rw (e, g) (omega (arith, costs_append env (all_nodes body) rest, all_cost env body, called_cost_is env (called_name v) (expand_nodes env body) c.meaning))
+
+-- how much a walk has still to go through, macros included
+abbrev pub cost_left : ReachedNodes → ℕ
+cost_left w = costs (macro_expansion (definitions w.macros.now)) (nodes_left w)
+
+pub next_falls : (v : Node) (old new : ReachedNodes) → Takes v old new → cost_left new < cost_left old
+next_falls v old new takes = rw takes.0 (step_falls (definitions old.macros.now) v old.seen.items new.seen.items (nodes_left old) (nodes_left new) takes.1)
 
 -- ---- the macro that a node calls
 
