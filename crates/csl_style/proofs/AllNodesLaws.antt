@@ -1,9 +1,8 @@
 -- A walk through all nodes of a list: what is left of it, and what its nodes tell by themselves, which
 -- is together what the list tells.
 use Rattle.std.proofs.Common.{◌≡◌, ℕ, zero, suc, ◌+◌, ◌<◌, ◌≤◌, Bool, false, ◌||◌, List, [], ◌∷◌, ◌++◌, length, map, drop, get_or, Option, Some, None, option_map, Vec, Global, refl, sym, ap, ap₂, ◌∙◌, arith, append_assoc, append-nil}
-use Rattle.std.specs.Prelude.{flat_map}
 use Rattle.std.proofs.Math.Bool.{or_assoc, or-false}
-use Rattle.std.proofs.lemmas.Grind.{flat_map-append}
+use Rattle.std.specs.Option.{option_or}
 use denote.Bor.{Bor}
 use Rattle.csl_elements.specs.Node.{Node, text, call, names, choose, group, Nodes, no_nodes, node, Branches, no_branches, otherwise, branch, Substitutes, no_substitutes, substitute, ExpandedNodes, expand, expand_call, expand_nodes, expand_branches, size, sizes, expanded_branches_size}
 use Rattle.csl_elements.specs.Dressing.{TextDressing}
@@ -15,8 +14,13 @@ use Rattle.csl_elements.specs.declared.element.Names.{Names, out-Names}
 use Rattle.csl_elements.specs.declared.element.NamesChild.{NamesChild}
 use Rattle.csl_elements.proofs.Rolled.{names_view}
 use Rattle.csl_style.specs.AllNodes.{all_nodes, nodes_inside, nodes_in_branches, nodes_in_substitutes, nodes_in_child, remaining_nodes, called_name, is_suffix_text}
-use Rattle.csl_style.specs.CallGraph.{calls_in, calls_in_all, calls_in_branches, calls_in_substitutes, own_calls}
+use Rattle.csl_style.specs.CallGraph.{calls_in_all, call_of}
+use Rattle.csl_style.specs.Expansion.{macro_index}
+use Rattle.csl_style.specs.Missing.{if_missing, missing_in_nodes}
+use Rattle.csl_style.specs.OverCalls.{over_node, over_nodes, over_branches, over_substitutes}
 use Rattle.csl_style.specs.YearSuffix.{has_year_suffix, any_has_year_suffix, branches_have_year_suffix}
+use Rattle.csl_style.proofs.Called.{place-is}
+use Rattle.csl_style.proofs.Meanings.{body-none}
 use Rattle.csl_style.proofs.YearSuffixes.{nodes_out, behind, choose_out, substitute_has_year_suffix, substitutes_size, insteads_same, insteads_sized}
 
 -- ---- what is left
@@ -90,38 +94,83 @@ no_child_left (x ∷ cs) = no_child_left cs
 pub names_inside : (x : Names) → nodes_inside (view_names x) ≡ children_from (out-Names x).children.items 0
 names_inside x = ap nodes_inside (names_view x)
 
+-- ---- what nodes tell by the names that they call
+
+module _ {A : Type 0} (none : A) (one : List ℕ → A) (both : A → A → A) where
+  abbrev pub told_by : Option (List ℕ) → A
+  told_by None = none
+  told_by (Some name) = one name
+
+  abbrev pub over_all : List Node → A
+  over_all [] = none
+  over_all (n ∷ ns) = both (told_by (called_name n)) (over_all ns)
+
+module _ {A : Type 0} (none : A) (one : List ℕ → A) (both : A → A → A) (left : (a : A) → both none a ≡ a) (right : (a : A) → both a none ≡ a) (assoc : (a b c : A) → both (both a b) c ≡ both a (both b c)) where
+  abbrev told : Node → A
+  told n = told_by none one both (called_name n)
+
+  abbrev all : List Node → A
+  all = over_all none one both
+
+  over_append : (xs ys : List Node) → all (xs ++ ys) ≡ both (all xs) (all ys)
+  over_append [] ys = sym (left (all ys))
+  over_append (x ∷ xs) ys = ap (both (told x)) (over_append xs ys) ∙ sym (assoc (told x) (all xs) (all ys))
+
+  mutual
+    pub all_over : (ns : Nodes) → all (all_nodes ns) ≡ over_nodes none one both ns
+    all_over no_nodes = refl
+    all_over (node n ns) =
+        ap (both (told n)) (over_append (nodes_inside n) (all_nodes ns))
+        ∙ sym (assoc (told n) (all (nodes_inside n)) (all (all_nodes ns)))
+        ∙ ap₂ both (node_over n) (all_over ns)
+
+    node_over : (n : Node) → both (told n) (all (nodes_inside n)) ≡ over_node none one both n
+    node_over (call name d) = right (one name)
+    node_over (names n ss) = left (all (nodes_in_substitutes ss)) ∙ substitute_over ss
+    node_over (choose bs) = left (all (nodes_in_branches bs)) ∙ branch_over bs
+    node_over (group delimiter d ns) = left (all (all_nodes ns)) ∙ all_over ns
+    node_over other = left none
+
+    branch_over : (bs : Branches) → all (nodes_in_branches bs) ≡ over_branches none one both bs
+    branch_over no_branches = refl
+    branch_over (otherwise ns) = all_over ns
+    branch_over (branch ts ns bs) = over_append (all_nodes ns) (nodes_in_branches bs) ∙ ap₂ both (all_over ns) (branch_over bs)
+
+    substitute_over : (ss : Substitutes) → all (nodes_in_substitutes ss) ≡ over_substitutes none one both ss
+    substitute_over no_substitutes = refl
+    substitute_over (substitute ns ss) = over_append (all_nodes ns) (nodes_in_substitutes ss) ∙ ap₂ both (all_over ns) (substitute_over ss)
+
 -- ---- the calls of macros
 
 module _ (ds : List Definition) where
   abbrev pub calls_of : List Node → List ℕ
-  calls_of ns = flat_map (λ n. own_calls ds (called_name n)) ns
+  calls_of ns = over_all [] (call_of ds) (λ a b. a ++ b) ns
 
-  calls_join : (xs ys : List Node) → calls_of (xs ++ ys) ≡ calls_of xs ++ calls_of ys
-  calls_join xs ys = flat_map-append (λ n. own_calls ds (called_name n)) xs ys
+  pub all_calls : (ns : Nodes) → calls_of (all_nodes ns) ≡ calls_in_all ds ns
+  all_calls = all_over [] (call_of ds) (λ a b. a ++ b) (λ a. refl) append-nil append_assoc
 
-  mutual
-    pub all_calls : (ns : Nodes) → calls_of (all_nodes ns) ≡ calls_in_all ds ns
-    all_calls no_nodes = refl
-    all_calls (node n ns) =
-        ap (λ xs. own_calls ds (called_name n) ++ xs) (calls_join (nodes_inside n) (all_nodes ns))
-        ∙ sym (append_assoc (own_calls ds (called_name n)) (calls_of (nodes_inside n)) (calls_of (all_nodes ns)))
-        ∙ ap₂ (λ a b. a ++ b) (node_calls n) (all_calls ns)
+-- ---- the first missing name
 
-    node_calls : (n : Node) → own_calls ds (called_name n) ++ calls_of (nodes_inside n) ≡ calls_in ds n
-    node_calls (call name d) = append-nil (own_calls ds (Some name))
-    node_calls (names n ss) = substitute_calls ss
-    node_calls (choose bs) = branch_calls bs
-    node_calls (group delimiter d ns) = all_calls ns
-    node_calls other = refl
+or-none : (a : Option (List ℕ)) → option_or a None ≡ a
+or-none None = refl
+or-none (Some x) = refl
 
-    branch_calls : (bs : Branches) → calls_of (nodes_in_branches bs) ≡ calls_in_branches ds bs
-    branch_calls no_branches = refl
-    branch_calls (otherwise ns) = all_calls ns
-    branch_calls (branch ts ns bs) = calls_join (all_nodes ns) (nodes_in_branches bs) ∙ ap₂ (λ a b. a ++ b) (all_calls ns) (branch_calls bs)
+or-assoc : (a b c : Option (List ℕ)) → option_or (option_or a b) c ≡ option_or a (option_or b c)
+or-assoc None b c = refl
+or-assoc (Some x) b c = refl
 
-    substitute_calls : (ss : Substitutes) → calls_of (nodes_in_substitutes ss) ≡ calls_in_substitutes ds ss
-    substitute_calls no_substitutes = refl
-    substitute_calls (substitute ns ss) = calls_join (all_nodes ns) (nodes_in_substitutes ss) ∙ ap₂ (λ a b. a ++ b) (all_calls ns) (substitute_calls ss)
+module _ (ds : List Definition) where
+  abbrev pub first_missing : List Node → Option (List ℕ)
+  first_missing ns = over_all None (if_missing ds) option_or ns
+
+  pub all_missing : (ns : Nodes) → first_missing (all_nodes ns) ≡ missing_in_nodes ds ns
+  all_missing = all_over None (if_missing ds) option_or (λ a. refl) or-none or-assoc
+
+  pub missing_here : (name : List ℕ) → macro_index name ds ≡ None → if_missing ds name ≡ Some name
+  missing_here name h = rw (body-none name ds h) refl
+
+  pub defined_here : (name : List ℕ) (i : ℕ) → macro_index name ds ≡ Some i → if_missing ds name ≡ None
+  defined_here name i h = rw (place-is name ds i h).holds refl
 
 -- ---- texts of the year suffix
 
@@ -231,3 +280,6 @@ pub ruleset names_laws = (child_left, no_child_left, names_inside, joined)
 
 -- for the next node of a walk
 pub ruleset next_laws = (first_left, empty_left)
+
+-- for the search for a missing name
+pub ruleset missing_laws = (all_missing, missing_here, defined_here)

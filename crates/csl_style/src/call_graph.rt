@@ -47,14 +47,14 @@ impl<'s> PlacedMacros<'s> {
     }
 
     /// The macros, in order.
-    fn items(&self) -> &'s [CslMacro]
+    pub(crate) fn items(&self) -> &'s [CslMacro]
         ensures { result.now ≡ self.now }
     {
         self.items
     }
 
     /// The place of the first macro of a name.
-    fn place(&self, name: &str) -> Option<usize>
+    pub(crate) fn place(&self, name: &str) -> Option<usize>
         ensures { result ≡ macro_index name.now (definitions self.now) }
     {
         self.places.get(name)

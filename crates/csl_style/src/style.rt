@@ -13,11 +13,13 @@ ghost use Rattle.csl_elements.specs.Locale.{terms_of, ordinals_of};
 ghost use Rattle.csl_elements.specs.Term.{term_text, term_gender};
 ghost use Rattle.csl_elements.specs.Ordinals.{ordinals, long_ordinals};
 ghost use Rattle.csl_elements.specs.Lookup.{date_in_form};
+ghost use Rattle.csl_style.specs.Missing.{missing_macro};
 ghost use Rattle.csl_style.specs.YearSuffix.{is_year_suffix_implicit, reached_layout};
 
 use crate::call_graph::{PlacedMacros, call_graph};
 use crate::components::{Components, components_of};
 use crate::cycles::first_cyclic;
+use crate::missing::first_missing;
 use crate::places::{Places, places_by_name};
 use crate::reached::AcyclicMacros;
 use crate::term_places::TermPlaces;
@@ -53,10 +55,12 @@ pub struct Style {
     ordinal_table: OrdinalTable,
     /// Whether each layout reaches no text of the year suffix.
     implicit: ImplicitSuffix,
+    /// The first macro name that the style calls but does not define.
+    missing: Option<String>,
 }
 
 impl Model for Style {
-    ghost use Rattle.std.specs.Prelude.{◌≡◌, false, Some};
+    ghost use Rattle.std.specs.Prelude.{◌≡◌, false, Some, option_map, string_bytes};
     ghost use Rattle.std.specs.Coded.{codes};
     ghost use Rattle.csl_elements.specs.contracts.element.CslMacro as of_macro;
     ghost use Rattle.csl_elements.specs.contracts.element.Layout as of_layout;
@@ -73,6 +77,7 @@ impl Model for Style {
     ghost use Rattle.csl_style.specs.TermPlaces.{ArePlacesOfTerms};
     ghost use Rattle.csl_elements.specs.OrdinalTable.{IsTableOf};
     ghost use Rattle.csl_style.specs.YearSuffix.{is_implicit_in};
+    ghost use Rattle.csl_style.specs.Missing.{missing_among};
 
     ghost view = { λ s. record {
       settings = s.settings;
@@ -89,7 +94,9 @@ impl Model for Style {
         × IsTableOf s.ordinal_table s.locales.items
         × (s.implicit.in_citation ≡ is_implicit_in (definitions s.macros.items) (Some s.citation))
         × (s.implicit.in_bibliography ≡ is_implicit_in (definitions s.macros.items)
-        s.bibliography) };
+        s.bibliography)
+        × (option_map string_bytes s.missing ≡ missing_among (definitions s.macros.items)
+        s.citation s.bibliography) };
 }
 
 /// Whether the page format is one of the two Chicago formats, which are not supported.
@@ -187,6 +194,8 @@ impl Style {
         } = checked;
         let acyclic = AcyclicMacros::new(&macros, &places);
         let implicit = implicit_suffix(alloc, &acyclic, &citation, &bibliography)?;
+        let placed = PlacedMacros::new(&macros, &places);
+        let missing = first_missing(alloc, &placed, &citation, &bibliography)?;
         let term_places = TermPlaces::new(alloc, &locales)?;
         let ordinal_table = OrdinalTable::new(alloc, &locales)?;
         Ok(Style {
@@ -200,6 +209,7 @@ impl Style {
             term_places,
             ordinal_table,
             implicit,
+            missing,
         })
     }
 
@@ -252,6 +262,17 @@ impl Style {
             Scope::Citation => self.implicit.in_citation,
             Scope::Bibliography => self.implicit.in_bibliography,
         }
+    }
+
+    /// The first macro name that the style calls but does not define: in the layout of citations, in
+    /// that of the bibliography, and then in all macros in order, also those that no layout reaches,
+    /// but without those that an earlier one of the same name hides (CSL 1.0.2, Macro). A call of a
+    /// missing macro prints nothing, so check a style that you wrote. [`Style::new`] finds it out
+    /// once.
+    pub fn missing_macro(&self) -> Option<&str>
+        ensures { option_map (λ name. name.now) result ≡ missing_macro self.now }
+    {
+        self.missing.as_deref()
     }
 
     /// The locales, in the order in which lookups search them.
