@@ -1,7 +1,7 @@
 //! Quotes inside of quotes, and commas and periods at the end of quotes.
 //! Definitions: specs/Letters.antt.
 
-ghost use Rattle.std.specs.Prelude.{◌≡◌, [], false, true, IfOk, IfSome, OnOk};
+ghost use Rattle.std.specs.Prelude.{◌≡◌, [], ◌++◌, false, true, IfOk, IfSome, OnOk};
 ghost use Rattle.csl_finish.specs.Letters.{is_word_char};
 ghost use Rattle.csl_finish.specs.Letters.{word_of, words};
 
@@ -175,6 +175,38 @@ fn push_quote(
     Ok(())
 }
 
+/// Appends the letter at an index, or a quote of the language in its place if the letter opens or
+/// closes one. `open` has the marks that close the quotes around it.
+#[tactic(auto, using(crate::proofs::Marks::pushes))]
+fn push_nested(
+    nested: &mut Vec<Letter>,
+    open: &mut Vec<char>,
+    letters: &[Letter],
+    index: usize,
+    letter: Letter,
+    quotes: Quotes<'_>,
+) -> Result<(), Memory>
+    ensures { OnOk result (words nested.new.items ≡ words nested.old.items ++ word_of letter) }
+{
+    if letter.text.is_none() || letter.value.is_alphanumeric() {
+        nested.push(letter)?;
+        return Ok(());
+    }
+    if let Some(rest) = open_after(letters, index, letter, quotes, open) {
+        open.truncate(rest);
+        return push_quote(nested, letter, quotes.inside_of(rest).close, Role::Closing);
+    }
+    if open.len() < MOST_OPEN {
+        if let Some(closing) = quotes.closing(letter.value) {
+            let quote = quotes.inside_of(open.len()).open;
+            open.push(closing)?;
+            return push_quote(nested, letter, quote, Role::Plain);
+        }
+    }
+    nested.push(letter)?;
+    Ok(())
+}
+
 /// The letters with the quotes of the language, the inner ones inside of outer ones, in turn.
 #[tactic(auto, using(crate::proofs::Marks::pushes))]
 pub(crate) fn nested_quotes(
@@ -187,22 +219,7 @@ pub(crate) fn nested_quotes(
     let mut nested = Vec::new(alloc);
     let mut open = Vec::new(alloc);
     for (index, letter) in letters.iter().enumerate() {
-        if letter.text.is_none() || letter.value.is_alphanumeric() {
-            nested.push(*letter)?;
-        } else if let Some(rest) = open_after(letters, index, *letter, quotes, &open) {
-            open.truncate(rest);
-            let close = quotes.inside_of(rest).close;
-            push_quote(&mut nested, *letter, close, Role::Closing)?;
-        } else if let Some(closing) = quotes
-            .closing(letter.value)
-            .filter(|_| open.len() < MOST_OPEN)
-        {
-            let quote = quotes.inside_of(open.len()).open;
-            push_quote(&mut nested, *letter, quote, Role::Plain)?;
-            open.push(closing)?;
-        } else {
-            nested.push(*letter)?;
-        }
+        push_nested(&mut nested, &mut open, letters, index, *letter, quotes)?;
     }
     Ok(nested)
 }

@@ -2,7 +2,7 @@
 -- is together what the list tells.
 use Rattle.std.proofs.Common.{◌≡◌, ℕ, zero, suc, ◌+◌, ◌<◌, ◌≤◌, Bool, false, ◌||◌, List, [], ◌∷◌, ◌++◌, length, map, drop, get_or, Option, Some, None, option_map, Vec, Global, refl, sym, ap, ap₂, ◌∙◌, arith, append_assoc, append-nil}
 use Rattle.std.proofs.Math.Bool.{or_assoc, or-false}
-use Rattle.std.specs.Option.{option_or}
+use Rattle.std.specs.Option.{option_or, option_to_list}
 use denote.Bor.{Bor}
 use Rattle.csl_elements.specs.Node.{Node, text, call, names, choose, group, Nodes, no_nodes, node, Branches, no_branches, otherwise, branch, Substitutes, no_substitutes, substitute, ExpandedNodes, expand, expand_call, expand_nodes, expand_branches, size, sizes, expanded_branches_size}
 use Rattle.csl_elements.specs.Dressing.{TextDressing}
@@ -13,7 +13,7 @@ use Rattle.csl_elements.specs.declared.element.ChooseBranch.{ChooseBranch, out-C
 use Rattle.csl_elements.specs.declared.element.Names.{Names, out-Names}
 use Rattle.csl_elements.specs.declared.element.NamesChild.{NamesChild}
 use Rattle.csl_elements.proofs.Rolled.{names_view}
-use Rattle.csl_style.specs.AllNodes.{all_nodes, nodes_inside, nodes_in_branches, nodes_in_substitutes, nodes_in_child, remaining_nodes, called_name, is_suffix_text}
+use Rattle.csl_style.specs.AllNodes.{all_nodes, nodes_inside, nodes_in_branches, nodes_in_substitutes, nodes_in_child, nodes_of_lists, called_name, is_suffix_text}
 use Rattle.csl_style.specs.CallGraph.{calls_in_all, call_of}
 use Rattle.csl_style.specs.Expansion.{macro_index}
 use Rattle.csl_style.specs.Missing.{if_missing, missing_in_nodes}
@@ -26,22 +26,16 @@ use Rattle.csl_style.proofs.YearSuffixes.{nodes_out, behind, choose_out, substit
 -- ---- what is left
 
 -- the last of some lists comes first
-pub left_pushed : (ls : List (Bor (List LayoutRenderingElement))) (l : Bor (List LayoutRenderingElement)) → remaining_nodes (ls ++ l ∷ []) ≡ all_nodes (view_nodes l.now) ++ remaining_nodes ls
+pub left_pushed : (ls : List (Bor (List LayoutRenderingElement))) (l : Bor (List LayoutRenderingElement)) → nodes_of_lists (ls ++ l ∷ []) ≡ all_nodes (view_nodes l.now) ++ nodes_of_lists ls
 left_pushed [] l = sym (append-nil (all_nodes (view_nodes l.now)))
-left_pushed (x ∷ ls) l = ap (λ ns. ns ++ all_nodes (view_nodes x.now)) (left_pushed ls l) ∙ append_assoc (all_nodes (view_nodes l.now)) (remaining_nodes ls) (all_nodes (view_nodes x.now))
+left_pushed (x ∷ ls) l = ap (λ ns. ns ++ all_nodes (view_nodes x.now)) (left_pushed ls l) ∙ append_assoc (all_nodes (view_nodes l.now)) (nodes_of_lists ls) (all_nodes (view_nodes x.now))
 
-none_in : (xs : List LayoutRenderingElement) (ns : List Node) → length xs ≡ 0 → all_nodes (view_nodes xs) ++ ns ≡ ns
-none_in [] ns e = refl
-none_in (x ∷ xs) ns e = absurd (omega (arith, e))
+pub none_in : (xs : List LayoutRenderingElement) → length xs ≡ 0 → all_nodes (view_nodes xs) ≡ []
+none_in [] e = refl
+none_in (x ∷ xs) e = absurd (omega (arith, e))
 
-pub empty_left : (ls : List (Bor (List LayoutRenderingElement))) (l : Bor (List LayoutRenderingElement)) → length l.now ≡ 0 → remaining_nodes (ls ++ l ∷ []) ≡ remaining_nodes ls
-empty_left ls l e = left_pushed ls l ∙ none_in l.now (remaining_nodes ls) e
-
-pub first_left : (ls : List (Bor (List LayoutRenderingElement))) (l : Bor (List LayoutRenderingElement)) (x : LayoutRenderingElement) (xs : List LayoutRenderingElement) → l.now ≡ x ∷ xs
-    → remaining_nodes (ls ++ l ∷ []) ≡ view_node x ∷ (nodes_inside (view_node x) ++ (all_nodes (view_nodes xs) ++ remaining_nodes ls))
-first_left ls l x xs e =
-    left_pushed ls l ∙ ap (λ (ys : List LayoutRenderingElement). all_nodes (view_nodes ys) ++ remaining_nodes ls) e
-    ∙ ap (λ ns. view_node x ∷ ns) (append_assoc (nodes_inside (view_node x)) (all_nodes (view_nodes xs)) (remaining_nodes ls))
+pub first_in : (ls : List LayoutRenderingElement) (x : LayoutRenderingElement) (xs : List LayoutRenderingElement) → ls ≡ x ∷ xs → all_nodes (view_nodes ls) ≡ view_node x ∷ (nodes_inside (view_node x) ++ all_nodes (view_nodes xs))
+first_in ls x xs e = ap (λ (ys : List LayoutRenderingElement). all_nodes (view_nodes ys)) e
 
 pub joined : (xs ys zs : List Node) → (xs ++ ys) ++ zs ≡ xs ++ (ys ++ zs)
 joined xs ys zs = append_assoc xs ys zs
@@ -149,13 +143,22 @@ module _ (ds : List Definition) where
   pub all_calls : (ns : Nodes) → calls_of (all_nodes ns) ≡ calls_in_all ds ns
   all_calls = all_over [] (call_of ds) (λ a b. a ++ b) (λ a. refl) append-nil append_assoc
 
+  calls_by : (n : Node) (name : List ℕ) (o : Option ℕ) (ns : List Node) → called_name n ≡ Some name → macro_index name ds ≡ o → calls_of (n ∷ ns) ≡ option_to_list o ++ calls_of ns
+  calls_by n name o ns named is = ap (λ m. told_by [] (call_of ds) (λ a b. a ++ b) m ++ calls_of ns) named ∙ ap (λ p. option_to_list p ++ calls_of ns) is
+
+  pub call_taken : (ps : List ℕ) (n : Node) (name : List ℕ) (i : ℕ) (ns : List Node) → called_name n ≡ Some name → macro_index name ds ≡ Some i → (ps ++ i ∷ []) ++ calls_of ns ≡ ps ++ calls_of (n ∷ ns)
+  call_taken ps n name i ns named is = append_assoc ps (i ∷ []) (calls_of ns) ∙ ap (λ xs. ps ++ xs) (sym (calls_by n name (Some i) ns named is))
+
+  pub missing_passed : (n : Node) (name : List ℕ) (ns : List Node) → called_name n ≡ Some name → macro_index name ds ≡ None → calls_of (n ∷ ns) ≡ calls_of ns
+  missing_passed n name ns named is = calls_by n name None ns named is
+
 -- ---- the first missing name
 
 or-none : (a : Option (List ℕ)) → option_or a None ≡ a
 or-none None = refl
 or-none (Some x) = refl
 
-or-assoc : (a b c : Option (List ℕ)) → option_or (option_or a b) c ≡ option_or a (option_or b c)
+pub or-assoc : (a b c : Option (List ℕ)) → option_or (option_or a b) c ≡ option_or a (option_or b c)
 or-assoc None b c = refl
 or-assoc (Some x) b c = refl
 
@@ -166,11 +169,24 @@ module _ (ds : List Definition) where
   pub all_missing : (ns : Nodes) → first_missing (all_nodes ns) ≡ missing_in_nodes ds ns
   all_missing = all_over None (if_missing ds) option_or (λ a. refl) or-none or-assoc
 
-  pub missing_here : (name : List ℕ) → macro_index name ds ≡ None → if_missing ds name ≡ Some name
+  missing_here : (name : List ℕ) → macro_index name ds ≡ None → if_missing ds name ≡ Some name
   missing_here name h = rw (body-none name ds h) refl
 
-  pub defined_here : (name : List ℕ) (i : ℕ) → macro_index name ds ≡ Some i → if_missing ds name ≡ None
+  defined_here : (name : List ℕ) (i : ℕ) → macro_index name ds ≡ Some i → if_missing ds name ≡ None
   defined_here name i h = rw (place-is name ds i h).holds refl
+
+  missing_by : (n : Node) (name : List ℕ) (o : Option (List ℕ)) (ns : List Node) → called_name n ≡ Some name → if_missing ds name ≡ o → first_missing (n ∷ ns) ≡ option_or o (first_missing ns)
+  missing_by n name o ns named is = ap (λ m. option_or (told_by None (if_missing ds) option_or m) (first_missing ns)) named ∙ ap (λ p. option_or p (first_missing ns)) is
+
+  pub defined_passed : (n : Node) (name : List ℕ) (i : ℕ) (ns : List Node) → called_name n ≡ Some name → macro_index name ds ≡ Some i → first_missing (n ∷ ns) ≡ first_missing ns
+  defined_passed n name i ns named is = missing_by n name None ns named (defined_here name i is)
+
+  pub missing_taken : (m : Option (List ℕ)) (n : Node) (name : List ℕ) (ns : List Node) → called_name n ≡ Some name → macro_index name ds ≡ None → option_or (option_or m (Some name)) (first_missing ns) ≡ option_or m (first_missing (n ∷ ns))
+  missing_taken m n name ns named is = or-assoc m (Some name) (first_missing ns) ∙ ap (option_or m) (sym (missing_by n name (Some name) ns named (missing_here name is)))
+
+pub or_names : (a b : Option (Bor (List ℕ))) → option_map (λ name. name.now) (option_or a b) ≡ option_or (option_map (λ name. name.now) a) (option_map (λ name. name.now) b)
+or_names None b = refl
+or_names (Some x) b = refl
 
 -- ---- texts of the year suffix
 
@@ -279,7 +295,4 @@ pub ruleset choose_laws = (branch_left, no_branch_left, choose_inside, joined)
 pub ruleset names_laws = (child_left, no_child_left, names_inside, joined)
 
 -- for the next node of a walk
-pub ruleset next_laws = (first_left, empty_left)
-
--- for the search for a missing name
-pub ruleset missing_laws = (all_missing, missing_here, defined_here)
+pub ruleset next_laws = (left_pushed, none_in, first_in, joined)

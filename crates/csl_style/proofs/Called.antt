@@ -1,6 +1,6 @@
 -- Names, their places, and the calls between macros.
-use Rattle.std.proofs.Common.{◌≡◌, ℕ, zero, suc, ◌<◌, ◌+◌, List, [], ◌∷◌, ◌++◌, length, get_or, Option, Some, None, option_map, Bool, true, false, if◌then◌else◌, nat_eq, refl, sym, ap, ◌∙◌, subst, arith, inl, inr, Vec, Global, Contains, string_bytes}
-use Rattle.std.specs.Option.{option_to_list}
+use Rattle.std.proofs.Common.{◌≡◌, ℕ, zero, suc, ◌<◌, ◌+◌, List, [], ◌∷◌, ◌++◌, length, drop, get_or, Option, Some, None, option_map, Bool, true, false, if◌then◌else◌, nat_eq, refl, sym, ap, ◌∙◌, subst, arith, inl, inr, Vec, Global, Contains, string_bytes}
+use Rattle.std.specs.Option.{option_to_list, option_or}
 use Rattle.std.specs.Str.{bytes_eq}
 use Rattle.std.proofs.lemmas.Bool.Decides.{nat_tests}
 use Rattle.std.proofs.lemmas.Slice.Eq.{bytes_eq-Decides}
@@ -11,6 +11,7 @@ use Rattle.csl_elements.specs.View.{Definition, definitions, view_nodes}
 use Rattle.csl_style.specs.Expansion.{macro_index, macro_body, is_below, calls_below, all_below, branches_below, substitutes_below}
 use Rattle.csl_style.specs.MacroCalls.{Calls, OneCalls, BranchCalls, SubstituteCalls}
 use Rattle.csl_style.specs.CallGraph.{calls_in, calls_in_all, calls_in_branches, calls_in_substitutes, name_at, children_at, IsCallGraph}
+use Rattle.csl_style.specs.Missing.{is_first_at, missing_in_nodes, missing_in_macros}
 use Rattle.csl_elements.specs.declared.element.CslMacro.{CslMacro}
 
 -- the macro at the place of a name has this name, and the nodes that the name stands for
@@ -173,3 +174,18 @@ name-read (x ∷ ms) (suc i) m less is = name-read ms i m (omega arith) is
 pub length-definitions : (ms : List CslMacro) → length (definitions ms) ≡ length ms
 length-definitions [] = refl
 length-definitions (m ∷ ms) = ap suc (length-definitions ms)
+
+-- the first missing name in the macros from a place on is in the first of them, or in the others
+missing-from : (all : List Definition) (ms : List CslMacro) (k i : ℕ) (m : CslMacro) → i < length ms → m ≡ get_or ms i m
+    → missing_in_macros all k (definitions (drop i ms)) ≡ option_or (if is_first_at all k (string_bytes m.name) then missing_in_nodes all (view_nodes m.children.items) else None) (missing_in_macros all (suc k) (definitions (drop (suc i) ms)))
+missing-from all [] k i m less is = absurd (omega arith)
+missing-from all (x ∷ ms) k zero m less is = rw is refl
+missing-from all (x ∷ ms) k (suc i) m less is = missing-from all ms k i m (omega arith) is
+
+pub missing-next : (all : List Definition) (xs ms : List CslMacro) (i : ℕ) (m : CslMacro) → xs ≡ ms → i < length xs → m ≡ get_or xs i m
+    → missing_in_macros all i (definitions (drop i ms)) ≡ option_or (if is_first_at all i (string_bytes m.name) then missing_in_nodes all (view_nodes m.children.items) else None) (missing_in_macros all (i + 1) (definitions (drop (i + 1) ms)))
+missing-next all xs ms i m same less is =
+    let here = if is_first_at all i (string_bytes m.name) then missing_in_nodes all (view_nodes m.children.items) else None in
+    let next : suc i ≡ i + 1 = omega arith in
+    subst (λ (ys : List CslMacro). missing_in_macros all i (definitions (drop i ys)) ≡ option_or here (missing_in_macros all (i + 1) (definitions (drop (i + 1) ys)))) same
+    (missing-from all xs i i m less is ∙ ap (λ j. option_or here (missing_in_macros all j (definitions (drop j xs)))) next)

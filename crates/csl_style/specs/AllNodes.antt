@@ -7,6 +7,7 @@ use Rattle.csl_elements.specs.Node.{Node, text, call, number, label, date, names
 use Rattle.csl_elements.specs.View.{view_nodes, NamesChildView, a_substitute}
 use Rattle.csl_style.specs.YearSuffix.{prints_year_suffix}
 use Rattle.csl_elements.specs.declared.element.LayoutRenderingElement.{LayoutRenderingElement}
+use Rattle.csl_style.specs.declared.all_nodes.RemainingNodes.{RemainingNodes}
 
 abbrev mutual
   pub all_nodes : Nodes → List Node
@@ -33,9 +34,13 @@ abbrev mutual
   nodes_in_substitutes (substitute ns ss) = all_nodes ns ++ nodes_in_substitutes ss
 
 -- all nodes of lists of which the last comes first
-abbrev pub remaining_nodes : List (Bor (List LayoutRenderingElement)) → List Node
-remaining_nodes [] = []
-remaining_nodes (l ∷ ls) = remaining_nodes ls ++ all_nodes (view_nodes l.now)
+abbrev pub nodes_of_lists : List (Bor (List LayoutRenderingElement)) → List Node
+nodes_of_lists [] = []
+nodes_of_lists (l ∷ ls) = nodes_of_lists ls ++ all_nodes (view_nodes l.now)
+
+-- the nodes that a walk has still to go through
+abbrev pub remaining_nodes : RemainingNodes → List Node
+remaining_nodes w = all_nodes (view_nodes w.first.now) ++ nodes_of_lists w.lists.items
 
 -- the name that a node calls itself, without the nodes inside it
 abbrev pub called_name : Node → Option (List ℕ)

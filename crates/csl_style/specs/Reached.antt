@@ -32,7 +32,7 @@ IsFirstCall ds n body old new = (i : ℕ) × IsCall ds n i × (children_at ds i 
 
 -- the nodes that are left
 abbrev pub nodes_left : ReachedNodes → List Node
-nodes_left w = remaining_nodes w.left.lists.items
+nodes_left w = remaining_nodes w.left
 
 -- no place is marked, and all nodes of the list are left
 abbrev pub IsStart : List CslMacro → Nodes → ReachedNodes → Type 0

@@ -11,31 +11,44 @@ use std::alloc::{AllocError, Global};
 /// The nodes that a walk has still to go through (`remaining_nodes`).
 #[derive(Drop)]
 pub(crate) struct RemainingNodes<'s> {
-    /// Lists of nodes, each with the nodes inside them. The last list comes first.
+    /// The nodes that come first, each with the nodes inside it.
+    first: &'s [LayoutRenderingElement],
+    /// Lists of nodes that come after them. The last list comes first.
     lists: Vec<&'s [LayoutRenderingElement]>,
 }
 
 impl<'s> RemainingNodes<'s> {
     /// All nodes of a list, at any depth.
-    pub(crate) fn new(
-        alloc: Global,
-        nodes: &'s [LayoutRenderingElement],
-    ) -> Result<RemainingNodes<'s>, AllocError>
-        ensures { IfOk result (λ left. spec.remaining_nodes left.lists.items
-            ≡ spec.all_nodes (view_nodes nodes.now)) }
+    pub(crate) fn new(alloc: Global, nodes: &'s [LayoutRenderingElement]) -> RemainingNodes<'s>
+        ensures { spec.remaining_nodes result ≡ spec.all_nodes (view_nodes nodes.now) }
     {
-        let lists = vec![in alloc; nodes]?;
-        Ok(RemainingNodes { lists })
+        RemainingNodes {
+            first: nodes,
+            lists: Vec::new(alloc),
+        }
+    }
+
+    /// Puts the first list to the others.
+    #[tactic(auto, using(crate::proofs::AllNodesLaws::next_laws))]
+    fn put_off(&mut self) -> Result<(), AllocError>
+        ensures { OnOk result (spec.nodes_of_lists self.new.lists.items
+            ≡ spec.remaining_nodes self.old) }
+    {
+        if !self.first.is_empty() {
+            self.lists.push(self.first)?;
+        }
+        Ok(())
     }
 
     /// Puts a list of nodes, with those inside them, before the others.
-    #[tactic(auto, using(crate::proofs::AllNodesLaws::left_pushed))]
+    #[tactic(auto, using(crate::proofs::AllNodesLaws::next_laws))]
     pub(crate) fn push(&mut self, nodes: &'s [LayoutRenderingElement]) -> Result<(), AllocError>
-        ensures { OnOk result (spec.remaining_nodes self.new.lists.items
-            ≡ spec.all_nodes (view_nodes nodes.now) ++ spec.remaining_nodes self.old.lists.items) }
+        ensures { OnOk result (spec.remaining_nodes self.new
+            ≡ spec.all_nodes (view_nodes nodes.now) ++ spec.remaining_nodes self.old) }
     {
         if !nodes.is_empty() {
-            self.lists.push(nodes)?;
+            self.put_off()?;
+            self.first = nodes;
         }
         Ok(())
     }
@@ -43,8 +56,8 @@ impl<'s> RemainingNodes<'s> {
     /// Puts the nodes inside a choose before the others.
     #[tactic(auto, using(crate::proofs::AllNodesLaws::choose_laws))]
     fn push_branches(&mut self, choose: &'s Choose) -> Result<(), AllocError>
-        ensures { OnOk result (spec.remaining_nodes self.new.lists.items
-            ≡ spec.nodes_inside (view_choose choose.now) ++ spec.remaining_nodes self.old.lists.items) }
+        ensures { OnOk result (spec.remaining_nodes self.new
+            ≡ spec.nodes_inside (view_choose choose.now) ++ spec.remaining_nodes self.old) }
     {
         if let Some(otherwise) = &choose.otherwise {
             self.push(otherwise)?;
@@ -59,8 +72,8 @@ impl<'s> RemainingNodes<'s> {
 
     /// Puts the nodes inside a child of names before the others. Only a substitute has any.
     fn push_child(&mut self, child: &'s NamesChild) -> Result<(), AllocError>
-        ensures { OnOk result (spec.remaining_nodes self.new.lists.items
-            ≡ spec.nodes_in_child (view_child child.now) ++ spec.remaining_nodes self.old.lists.items) }
+        ensures { OnOk result (spec.remaining_nodes self.new
+            ≡ spec.nodes_in_child (view_child child.now) ++ spec.remaining_nodes self.old) }
     {
         match child {
             NamesChild::Name(_) | NamesChild::EtAl(_) | NamesChild::Label(_) => Ok(()),
@@ -71,8 +84,8 @@ impl<'s> RemainingNodes<'s> {
     /// Puts the nodes inside a names node before the others. They are those of its substitutes.
     #[tactic(auto, using(crate::proofs::AllNodesLaws::names_laws))]
     fn push_substitutes(&mut self, names: &'s Names) -> Result<(), AllocError>
-        ensures { OnOk result (spec.remaining_nodes self.new.lists.items
-            ≡ spec.nodes_inside (view_names names.now) ++ spec.remaining_nodes self.old.lists.items) }
+        ensures { OnOk result (spec.remaining_nodes self.new
+            ≡ spec.nodes_inside (view_names names.now) ++ spec.remaining_nodes self.old) }
     {
         let mut i = names.children.len();
         while i > 0 {
@@ -84,8 +97,8 @@ impl<'s> RemainingNodes<'s> {
 
     /// Puts the nodes inside a node before the others.
     fn push_inside(&mut self, node: &'s LayoutRenderingElement) -> Result<(), AllocError>
-        ensures { OnOk result (spec.remaining_nodes self.new.lists.items
-            ≡ spec.nodes_inside (view_node node.now) ++ spec.remaining_nodes self.old.lists.items) }
+        ensures { OnOk result (spec.remaining_nodes self.new
+            ≡ spec.nodes_inside (view_node node.now) ++ spec.remaining_nodes self.old) }
     {
         match node {
             LayoutRenderingElement::Text(_)
@@ -101,20 +114,25 @@ impl<'s> RemainingNodes<'s> {
     /// Takes the next node.
     #[tactic(auto, using(crate::proofs::AllNodesLaws::next_laws))]
     pub(crate) fn next(&mut self) -> Result<Option<&'s LayoutRenderingElement>, AllocError>
-        ensures next { IfOk result (λ next. IfSome next (λ node. spec.remaining_nodes
-            self.old.lists.items
-            ≡ view_node node.now ∷ spec.remaining_nodes self.new.lists.items)) }
+        ensures next { IfOk result (λ next. IfSome next (λ node. spec.remaining_nodes self.old
+            ≡ view_node node.now ∷ spec.remaining_nodes self.new)) }
         ensures end { IfOk result (λ next. next ≡ None
-            → spec.remaining_nodes self.old.lists.items ≡ []) }
+            → spec.remaining_nodes self.old ≡ []) }
     {
-        while let Some(list) = self.lists.pop() {
-            if let Some((first, rest)) = list.split_first() {
-                self.push(rest)?;
-                self.push_inside(first)?;
-                return Ok(Some(first));
+        while self.first.is_empty() {
+            match self.lists.pop() {
+                Some(list) => self.first = list,
+                None => return Ok(None),
             }
         }
-        Ok(None)
+        match self.first.split_first() {
+            Some((node, rest)) => {
+                self.first = rest;
+                self.push_inside(node)?;
+                Ok(Some(node))
+            }
+            None => Ok(None),
+        }
     }
 }
 

@@ -1,88 +1,53 @@
-//! The first macro that a style calls but does not have (CSL 1.0.2, Macro). The nodes come as a
-//! flat list ([`RemainingNodes`]), so no depth takes stack.
+//! The first macro that a style calls but does not have (CSL 1.0.2, Macro).
 
 ghost use Rattle.std.specs.Prelude.{◌≡◌, IfOk, option_map, string_bytes};
 ghost use Rattle.csl_style.specs.Missing as spec;
-ghost use Rattle.csl_elements.specs.View.{definitions, view_nodes};
+ghost use Rattle.csl_elements.specs.View.{definitions};
 
-use crate::all_nodes::{RemainingNodes, called_name};
-use crate::call_graph::PlacedMacros;
-use csl_elements::{CslMacro, Layout, LayoutRenderingElement};
+use crate::call_graph::{PlacedMacros, calls_of};
+use csl_elements::Layout;
 use std::alloc::{AllocError, Global};
 
-/// The first missing name in a list of elements, at any depth.
-#[tactic(auto, using(crate::proofs::AllNodesLaws::missing_laws))]
-fn missing_in_nodes<'s>(
-    alloc: Global,
-    macros: &PlacedMacros<'_>,
-    elements: &'s [LayoutRenderingElement],
-) -> Result<Option<&'s str>, AllocError>
-    ensures { IfOk result (λ missing. option_map (λ name. name.now) missing
-        ≡ spec.missing_in_nodes (definitions macros.now) (view_nodes elements.now)) }
-{
-    let mut left = RemainingNodes::new(alloc, elements)?;
-    while let Some(node) = left.next()? {
-        if let Some(name) = called_name(node) {
-            if macros.place(name).is_none() {
-                return Ok(Some(name));
-            }
-        }
-    }
-    Ok(None)
-}
-
-/// The first missing name in the nodes of macros, each the first of its name in the style.
-fn missing_in_macros<'s>(
-    alloc: Global,
-    macros: &PlacedMacros<'_>,
-    items: &'s [CslMacro],
-) -> Result<Option<&'s str>, AllocError>
-    ensures { IfOk result (λ missing. option_map (λ name. name.now) missing
-        ≡ spec.missing_in_macros (definitions macros.now) 0 (definitions items.now)) }
-{
-    for (i, m) in items.iter().enumerate() {
-        if macros.place(m.name.as_str()) == Some(i) {
-            if let Some(name) = missing_in_nodes(alloc, macros, &m.children)? {
-                return Ok(Some(name));
-            }
-        }
-    }
-    Ok(None)
-}
-
-/// The first missing name in the layouts and then in the macros.
+/// The first missing name in the layouts, and then in the macros, where it is `in_macros`.
 #[tactic(auto, unfolding(crate::specs::Missing::missing_among))]
 fn missing_among<'s>(
     alloc: Global,
-    macros: &PlacedMacros<'s>,
+    macros: &PlacedMacros<'_, '_>,
     citation: &'s Layout,
     bibliography: &'s Option<Layout>,
+    in_macros: Option<&'s str>,
 ) -> Result<Option<&'s str>, AllocError>
+    requires { option_map (λ name. name.now) in_macros
+        ≡ spec.missing_in_macros (definitions macros.now) 0 (definitions macros.now) }
     ensures { IfOk result (λ missing. option_map (λ name. name.now) missing
         ≡ spec.missing_among (definitions macros.now) citation.now bibliography.now) }
 {
-    if let Some(name) = missing_in_nodes(alloc, macros, &citation.elements)? {
+    if let Some(name) = calls_of(alloc, macros, &citation.elements)?.missing {
         return Ok(Some(name));
     }
     if let Some(bibliography) = bibliography {
-        if let Some(name) = missing_in_nodes(alloc, macros, &bibliography.elements)? {
+        if let Some(name) = calls_of(alloc, macros, &bibliography.elements)?.missing {
             return Ok(Some(name));
         }
     }
-    missing_in_macros(alloc, macros, macros.items())
+    Ok(in_macros)
 }
 
-/// A copy of the first missing name in the layouts and then in the macros.
+/// A copy of the first missing name in the layouts, and then in the macros, where it is
+/// `in_macros`.
 pub(crate) fn first_missing(
     alloc: Global,
-    macros: &PlacedMacros<'_>,
+    macros: &PlacedMacros<'_, '_>,
     citation: &Layout,
     bibliography: &Option<Layout>,
+    in_macros: Option<&str>,
 ) -> Result<Option<String>, AllocError>
+    requires { option_map (λ name. name.now) in_macros
+        ≡ spec.missing_in_macros (definitions macros.now) 0 (definitions macros.now) }
     ensures { IfOk result (λ missing. option_map string_bytes missing
         ≡ spec.missing_among (definitions macros.now) citation.now bibliography.now) }
 {
-    match missing_among(alloc, macros, citation, bibliography)? {
+    match missing_among(alloc, macros, citation, bibliography, in_macros)? {
         Some(name) => {
             let copy = String::from_str(alloc, name)?;
             Ok(Some(copy))

@@ -105,7 +105,7 @@ impl<'s> ReachedNodes<'s> {
         ensures { IfOk result (IsStart macros.now (view_nodes nodes.now)) }
     {
         let seen = vec![in alloc; false; macros.len()]?;
-        let left = RemainingNodes::new(alloc, nodes)?;
+        let left = RemainingNodes::new(alloc, nodes);
         Ok(ReachedNodes { macros, seen, left })
     }
 

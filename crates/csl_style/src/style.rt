@@ -13,7 +13,7 @@ ghost use Rattle.csl_elements.specs.Locale.{terms_of, ordinals_of};
 ghost use Rattle.csl_elements.specs.Term.{term_text, term_gender};
 ghost use Rattle.csl_elements.specs.Ordinals.{ordinals, long_ordinals};
 ghost use Rattle.csl_elements.specs.Lookup.{date_in_form};
-ghost use Rattle.csl_style.specs.Missing.{missing_macro};
+ghost use Rattle.csl_style.specs.Missing.{missing_macro, missing_in_macros};
 ghost use Rattle.csl_style.specs.YearSuffix.{is_year_suffix_implicit, reached_layout};
 
 use crate::call_graph::{PlacedMacros, call_graph};
@@ -111,29 +111,33 @@ fn is_chicago(format: Option<PageRangeFormat>) -> bool
 
 /// What the checks of a style find of its macros.
 #[derive(Drop)]
-struct CheckedMacros {
+struct CheckedMacros<'s> {
     /// The index of the first macro of each name.
     places: Places,
     /// The indices of the macros, each after the macros that it calls.
     callees_first: Vec<usize>,
+    /// The first name that macros call and the style does not have.
+    missing: Option<&'s str>,
 }
 
 /// Checks the macros and the page format of a style.
-fn checked_macros(
+fn checked_macros<'s>(
     alloc: Global,
     format: Option<PageRangeFormat>,
-    macros: &[CslMacro],
-) -> Result<CheckedMacros, StyleError>
+    macros: &'s [CslMacro],
+) -> Result<CheckedMacros<'s>, StyleError>
     ensures places { IfOk result (λ checked.
         ArePlacesByName checked.places (definitions macros.now)) }
+    ensures missing { IfOk result (λ checked. option_map (λ name. name.now) checked.missing
+        ≡ missing_in_macros (definitions macros.now) 0 (definitions macros.now)) }
     ensures ranks { OnOk result (IsAcyclic (definitions macros.now)) }
     ensures format { OnOk result (is_chicago format ≡ false) }
     ensures refused { IfErr result (IsRefusal format (definitions macros.now)) }
 {
     let places = places_by_name(alloc, macros)?;
     let graph = call_graph(alloc, &PlacedMacros::new(macros, &places))?;
-    let components = components_of(alloc, &graph)?;
-    if let Some(i) = first_cyclic(alloc, &graph, &components.levels)? {
+    let components = components_of(alloc, &graph.rows)?;
+    if let Some(i) = first_cyclic(alloc, &graph.rows, &components.levels)? {
         return Err(StyleError::CyclicMacro(macros[i].name.clone()?));
     }
     if is_chicago(format) {
@@ -146,6 +150,7 @@ fn checked_macros(
     Ok(CheckedMacros {
         places,
         callees_first,
+        missing: graph.missing,
     })
 }
 
@@ -191,11 +196,12 @@ impl Style {
         let CheckedMacros {
             places,
             callees_first,
+            missing,
         } = checked;
         let acyclic = AcyclicMacros::new(&macros, &places);
         let implicit = implicit_suffix(alloc, &acyclic, &citation, &bibliography)?;
         let placed = PlacedMacros::new(&macros, &places);
-        let missing = first_missing(alloc, &placed, &citation, &bibliography)?;
+        let missing = first_missing(alloc, &placed, &citation, &bibliography, missing)?;
         let term_places = TermPlaces::new(alloc, &locales)?;
         let ordinal_table = OrdinalTable::new(alloc, &locales)?;
         Ok(Style {

@@ -13,7 +13,7 @@ pub returns-in-Some-clause-refused : goal.returns-in-Some-clause-refused
 returns-in-Some-clause-refused c =
     let ms = c.args.macros.now in
     let ds = definitions ms in
-    let g = c.in_ok-graph.graph.items in
+    let g = c.in_ok-graph.graph.rows.items in
     let i = c.in-Some.i in
     let is : IsCallGraph ds g = subst (λ (xs : List CslMacro). IsCallGraph (definitions xs) g) c.new.ensures c.in_ok-graph.ensures.calls in
     let same : c.deref-2.result.now ≡ g = c.deref-2.ensures.value in
@@ -26,11 +26,11 @@ returns-in-Some-clause-refused c =
 pub returns-clause-ranks : goal.returns-clause-ranks
 returns-clause-ranks c =
     let none : c.in_ok-i.field-0 ≡ None = search rules in
-    acyclic (definitions c.args.macros.now) c.in_ok-graph.graph.items (subst (λ (xs : List CslMacro). IsCallGraph (definitions xs) c.in_ok-graph.graph.items) c.new.ensures c.in_ok-graph.ensures.calls) (subst HasRanks c.deref-2.ensures.value (c.in_ok-i.ensures.ranks none))
+    acyclic (definitions c.args.macros.now) c.in_ok-graph.graph.rows.items (subst (λ (xs : List CslMacro). IsCallGraph (definitions xs) c.in_ok-graph.graph.rows.items) c.new.ensures c.in_ok-graph.ensures.calls) (subst HasRanks c.deref-2.ensures.value (c.in_ok-i.ensures.ranks none))
 
 pub returns-then-is_chicago-clause-refused : goal.returns-then-is_chicago-clause-refused
 returns-then-is_chicago-clause-refused c =
     let ds = definitions c.args.macros.now in
     let none : c.in_ok-i.field-0 ≡ None = search rules in
-    let ranks = acyclic ds c.in_ok-graph.graph.items (subst (λ (xs : List CslMacro). IsCallGraph (definitions xs) c.in_ok-graph.graph.items) c.new.ensures c.in_ok-graph.ensures.calls) (subst HasRanks c.deref-2.ensures.value (c.in_ok-i.ensures.ranks none)) in
+    let ranks = acyclic ds c.in_ok-graph.graph.rows.items (subst (λ (xs : List CslMacro). IsCallGraph (definitions xs) c.in_ok-graph.graph.rows.items) c.new.ensures c.in_ok-graph.ensures.calls) (subst HasRanks c.deref-2.ensures.value (c.in_ok-i.ensures.ranks none)) in
     (none-returns ds ranks, sym c.is_chicago.ensures ∙ c.if-is_chicago.true)

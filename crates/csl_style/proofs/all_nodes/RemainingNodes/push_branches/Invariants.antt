@@ -10,7 +10,7 @@ invariant-loop-i l =
     let choose = out-Choose l.choose in
     record {
       within : l.i ≤ length choose.else_if.items;
-      left : remaining_nodes l.self.lists.items ≡ branches_from choose.else_if.items choose.otherwise l.i ++ remaining_nodes l.fn.self.lists.items;
+      left : remaining_nodes l.self ≡ branches_from choose.else_if.items choose.otherwise l.i ++ remaining_nodes l.fn.self;
     }
 
 abbrev pub decreases-loop-i : goal.decreases-loop-i

@@ -10,7 +10,7 @@ invariant-loop-i l =
     let names = out-Names l.names in
     record {
       within : l.i ≤ length names.children.items;
-      left : remaining_nodes l.self.lists.items ≡ children_from names.children.items l.i ++ remaining_nodes l.fn.self.lists.items;
+      left : remaining_nodes l.self ≡ children_from names.children.items l.i ++ remaining_nodes l.fn.self;
     }
 
 abbrev pub decreases-loop-i : goal.decreases-loop-i
