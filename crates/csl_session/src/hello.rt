@@ -13,7 +13,7 @@ use std::alloc::Global;
 pub const PROTOCOL: u64 = 1;
 
 /// The version of the library.
-const VERSION: &str = "0.9.0";
+const VERSION: &str = "0.9.1";
 
 /// A list of names, after those that are there.
 fn push_names(alloc: Global, items: &mut Vec<Value>, names: &[&str]) -> Result<(), Memory> {

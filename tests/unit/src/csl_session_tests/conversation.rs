@@ -75,7 +75,7 @@ fn a_session_tells_of_itself(rt: HostRuntime) {
     assert!(rt; reply.as_str().starts_with(begin));
     for part in [
         r#""protocol":1,"#,
-        r#""version":"0.9.0"}}"#,
+        r#""version":"0.9.1"}}"#,
         r#""reply":16000000,"#,
     ] {
         assert!(rt; reply.as_str().contains(part), "{part}");
