@@ -132,8 +132,8 @@ impl<'s> ReachedNodes<'s> {
         Some(self.macros.nodes_at(i))
     }
 
-    /// Takes the next node. If it calls a macro, and the walk has not reached that macro before, the
-    /// nodes of the macro come next.
+    /// Takes the next node. If it calls a macro that the walk has not reached before, the nodes of
+    /// the macro come next.
     pub(crate) fn next(&mut self) -> Result<Option<&'s LayoutRenderingElement>, AllocError>
         requires { length self.old.seen.items ≡ length self.old.macros.now }
         ensures next { IfOk result (λ next. IfSome next

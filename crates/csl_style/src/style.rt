@@ -270,11 +270,11 @@ impl Style {
         }
     }
 
-    /// The first macro name that the style calls but does not define: in the layout of citations, in
-    /// that of the bibliography, and then in all macros in order, also those that no layout reaches,
-    /// but without those that an earlier one of the same name hides (CSL 1.0.2, Macro). A call of a
-    /// missing macro prints nothing, so check a style that you wrote. [`Style::new`] finds it out
-    /// once.
+    /// The first macro name that the style calls but does not define: in the layout of citations,
+    /// in that of the bibliography, and then in all macros in order, also those that no layout
+    /// reaches, but without those that an earlier one of the same name hides (CSL 1.0.2, Macro). A
+    /// call of a missing macro prints nothing, so check a style that you wrote. [`Style::new`]
+    /// finds it out once.
     pub fn missing_macro(&self) -> Option<&str>
         ensures { option_map (λ name. name.now) result ≡ missing_macro self.now }
     {
